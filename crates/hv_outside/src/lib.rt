@@ -1,0 +1,15 @@
+//! The outside of the tool: files, input and output, each behind a trait whose meanings say what it
+//! holds and how often it failed.
+#![tactic(auto)]
+
+mod count;
+mod files;
+mod held;
+mod safe;
+mod sink;
+mod source;
+
+pub use files::{FileFault, Files, Got};
+pub use safe::{SafeFiles, SafeSink, SafeSource};
+pub use sink::{Sink, SinkFault, write_all};
+pub use source::{Failed, Source};
