@@ -8,8 +8,12 @@ mod held;
 mod safe;
 mod sink;
 mod source;
+mod std_files;
+mod std_io;
 
 pub use files::{FileFault, Files, Got};
 pub use safe::{SafeFiles, SafeSink, SafeSource};
 pub use sink::{Sink, SinkFault, write_all};
 pub use source::{Failed, Source};
+pub use std_files::DirFiles;
+pub use std_io::{StdSink, StdSource};
