@@ -5,13 +5,16 @@
 mod count;
 mod files;
 mod held;
+mod memory;
 mod safe;
+mod schedule;
 mod sink;
 mod source;
 mod std_files;
 mod std_io;
 
 pub use files::{FileFault, Files, Got};
+pub use memory::{MemFiles, MemSink, MemSource};
 pub use safe::{SafeFiles, SafeSink, SafeSource};
 pub use sink::{Sink, SinkFault, write_all};
 pub use source::{Failed, Source};
