@@ -4,7 +4,6 @@
 
 mod count;
 mod files;
-mod held;
 mod memory;
 mod safe;
 mod schedule;
@@ -20,3 +19,6 @@ pub use sink::{Sink, SinkFault, write_all};
 pub use source::{Failed, Source};
 pub use std_files::DirFiles;
 pub use std_io::{StdSink, StdSource};
+
+#[cfg(test)]
+mod tests;

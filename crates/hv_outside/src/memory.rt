@@ -1,13 +1,11 @@
-ghost use Rattle.std.specs.Prelude.{◌≡◌, ◌<◌, ◌≤◌, ℕ, List as ListOf, [], ◌++◌, length, true, None, Some, OnOk, OnErr};
+ghost use Rattle.std.specs.Prelude.{◌≡◌, ◌<◌, ℕ, List as ListOf, [], true, None, Some, OnOk, OnErr};
 ghost use Rattle.std.specs.Option.{option_map};
 ghost use Rattle.std.specs.String.{string_bytes};
-ghost use Rattle.indexmap.specs.IndexMap.{get_by_text};
 ghost use Rattle.hv_outside.specs.Memory.{Puts, SameHeld};
 
 use crate::count::raised;
 use crate::files::{FileFault, Files, Got};
-use crate::held::Held;
-use crate::safe::SafeSource;
+use crate::safe::{SafeFiles, SafeSink, SafeSource};
 use crate::schedule::Schedule;
 use crate::sink::{Sink, SinkFault};
 use crate::source::{Failed, Source};
@@ -17,10 +15,9 @@ use std::alloc::Global;
 /// Files in memory, of which the reads of given numbers fail.
 #[derive(Drop)]
 pub struct MemFiles {
-    held: Held,
+    files: SafeFiles,
     schedule: Schedule,
     faults: u64,
-    absences: u64,
     failed_name: Option<String>,
 }
 
@@ -34,10 +31,9 @@ impl MemFiles {
         ensures no_absence { ⟦<MemFiles as Files>⟧.absences result ≡ 0 }
     {
         MemFiles {
-            held: Held::new(alloc),
+            files: SafeFiles::new(alloc),
             schedule: Schedule::new(fails),
             faults: 0,
-            absences: 0,
             failed_name: None,
         }
     }
@@ -52,20 +48,20 @@ impl MemFiles {
         ensures name_stays { ⟦<MemFiles as Files>⟧.failed_name self.new ≡ ⟦<MemFiles as Files>⟧.failed_name self.old }
         ensures absences_stay { ⟦<MemFiles as Files>⟧.absences self.new ≡ ⟦<MemFiles as Files>⟧.absences self.old }
     {
-        self.held.put(name, bytes)
+        self.files.put(name, bytes)
     }
 }
 
 impl Files for MemFiles {
     ghost told = { λ _. true };
 
-    ghost held = { λ files. get_by_text files.held.files };
+    ghost held = { λ files. ⟦<SafeFiles as Files>⟧.held files.files };
 
     ghost faults = { λ files. files.faults };
 
     ghost failed_name = { λ files. option_map string_bytes files.failed_name };
 
-    ghost absences = { λ files. files.absences };
+    ghost absences = { λ files. ⟦<SafeFiles as Files>⟧.absences files.files };
 
     fn read(&mut self, alloc: Global, name: &str) -> Result<Got, FileFault> {
         if self.schedule.begin() {
@@ -77,14 +73,7 @@ impl Files for MemFiles {
             self.failed_name = Some(copy);
             return Err(FileFault::Failed);
         }
-        let found = match self.held.find(alloc, name) {
-            Ok(found) => found,
-            Err(Memory) => return Err(FileFault::Memory),
-        };
-        if let Got::Absent = &found {
-            self.absences = raised(self.absences);
-        }
-        Ok(found)
+        self.files.read(alloc, name)
     }
 }
 
@@ -128,7 +117,7 @@ impl Source for MemSource {
 /// Output in memory, of which the writes of given numbers fail.
 #[derive(Drop)]
 pub struct MemSink {
-    text: Text,
+    sink: SafeSink,
     most: usize,
     schedule: Schedule,
     faults: u64,
@@ -144,7 +133,7 @@ impl MemSink {
         ensures no_fault { ⟦<MemSink as Sink>⟧.faults result ≡ 0 }
     {
         MemSink {
-            text: Text::new(alloc),
+            sink: SafeSink::new(alloc),
             most,
             schedule: Schedule::new(fails),
             faults: 0,
@@ -155,12 +144,12 @@ impl MemSink {
     pub fn bytes(&self) -> &[u8]
         ensures { ⟦<MemSink as Sink>⟧.written self.now ≡ Some result.now }
     {
-        self.text.as_slice()
+        self.sink.bytes()
     }
 }
 
 impl Sink for MemSink {
-    ghost written = { λ sink. Some sink.text };
+    ghost written = { λ sink. Some sink.sink };
 
     ghost faults = { λ sink. sink.faults };
 
@@ -170,9 +159,6 @@ impl Sink for MemSink {
             return Err(SinkFault::Failed);
         }
         let count = piece.len().min(self.most);
-        match self.text.extend_from_slice(&piece[..count]) {
-            Ok(()) => Ok(count),
-            Err(Memory) => Err(SinkFault::Memory),
-        }
+        self.sink.write_some(&piece[..count])
     }
 }

@@ -1,31 +1,34 @@
-ghost use Rattle.std.specs.Prelude.{◌≡◌, ℕ, ◌≤◌, List, [], ◌++◌, length, drop, true, None, Some, OnOk, OnErr};
+ghost use Rattle.std.specs.Prelude.{◌≡◌, ℕ, ◌≤◌, List, [], length, drop, true, None, Some, OnOk, OnErr, IfOk};
 ghost use Rattle.indexmap.specs.IndexMap.{get_by_text};
+ghost use Rattle.hv_outside.specs.Files.{GivesHeld, IsWithinLimit};
 ghost use Rattle.hv_outside.specs.Memory.{Puts, SameHeld};
 
 use crate::count::raised;
-use crate::files::{FileFault, Files, Got};
-use crate::held::Held;
+use crate::files::{FILE_LIMIT, FileFault, Files, Got};
 use crate::sink::{Sink, SinkFault};
 use crate::source::{Failed, Source};
 use hv_base::{Memory, Text};
+use indexmap::IndexMap;
 use std::alloc::Global;
 use std::marker::Model;
 
 /// Files in memory, of which no read fails.
 #[derive(Drop)]
 pub struct SafeFiles {
-    held: Held,
+    alloc: Global,
+    files: IndexMap<String, Text>,
     absences: u64,
 }
 
 impl SafeFiles {
-    /// No file.
+    /// No file. Names are copied into memory of `alloc`.
     pub fn new(alloc: Global) -> SafeFiles
         ensures holds_nothing { (name : List ℕ) → ⟦<SafeFiles as Files>⟧.held result name ≡ None }
         ensures no_absence { ⟦<SafeFiles as Files>⟧.absences result ≡ 0 }
     {
         SafeFiles {
-            held: Held::new(alloc),
+            alloc,
+            files: IndexMap::new(alloc),
             absences: 0,
         }
     }
@@ -38,14 +41,28 @@ impl SafeFiles {
             (SameHeld (⟦<SafeFiles as Files>⟧.held self.old) (⟦<SafeFiles as Files>⟧.held self.new)) }
         ensures absences_stay { ⟦<SafeFiles as Files>⟧.absences self.new ≡ ⟦<SafeFiles as Files>⟧.absences self.old }
     {
-        self.held.put(name, bytes)
+        let name = String::from_str(self.alloc, name)?;
+        self.files.insert(name, bytes)?;
+        Ok(())
+    }
+
+    /// What a read of that name finds.
+    fn find(&self, alloc: Global, name: &str) -> Result<Got, Memory>
+        ensures as_held { IfOk result (GivesHeld (get_by_text self.now.files name.now)) }
+        ensures within_limit { IfOk result IsWithinLimit }
+    {
+        match self.files.get(name) {
+            None => Ok(Got::Absent),
+            Some(bytes) if bytes.len() as u64 > FILE_LIMIT => Ok(Got::TooBig(bytes.len() as u64)),
+            Some(bytes) => Ok(Got::Bytes(Text::from_slice(alloc, bytes.as_slice())?)),
+        }
     }
 }
 
 impl Files for SafeFiles {
     ghost told = { λ _. true };
 
-    ghost held = { λ files. get_by_text files.held.files };
+    ghost held = { λ files. get_by_text files.files };
 
     ghost faults = { λ _. 0 };
 
@@ -54,14 +71,14 @@ impl Files for SafeFiles {
     ghost absences = { λ files. files.absences };
 
     fn read(&mut self, alloc: Global, name: &str) -> Result<Got, FileFault> {
-        let found = match self.held.find(alloc, name) {
-            Ok(found) => found,
-            Err(Memory) => return Err(FileFault::Memory),
-        };
-        if let Got::Absent = &found {
-            self.absences = raised(self.absences);
+        match self.find(alloc, name) {
+            Ok(Got::Absent) => {
+                self.absences = raised(self.absences);
+                Ok(Got::Absent)
+            }
+            Ok(found) => Ok(found),
+            Err(Memory) => Err(FileFault::Memory),
         }
-        Ok(found)
     }
 }
 
