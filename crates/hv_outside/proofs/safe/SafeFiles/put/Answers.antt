@@ -1,0 +1,6 @@
+use Rattle.std.proofs.Common.{arith}
+use Rattle.std.proofs.lemmas.Map.Text.{text_keys}
+use Rattle.hv_outside.proofs.safe.SafeFiles.put.Goals as goal
+
+pub returns-clause-put : goal.returns-clause-put
+returns-clause-put c = (grind (arith, text_keys), λ other differs. grind (arith, text_keys))
