@@ -2,6 +2,7 @@ pub mod Bytes
 pub mod Config
 pub mod Model
 pub mod ModelFile
+pub mod ModelKind
 pub mod Name
 pub mod Program
 pub mod Run

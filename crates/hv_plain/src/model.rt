@@ -4,6 +4,7 @@ ghost use Rattle.hv_plain.specs.ModelFile.{ModelReading, line_of_words, model_of
 ghost use Rattle.std.specs.List.{list_any};
 ghost use Rattle.std.specs.Str.{bytes_eq};
 ghost use Rattle.hv_plain.specs.Config.{IsValid};
+ghost use Rattle.hv_plain.specs.ModelKind.{kind_name, kind_number};
 ghost use Rattle.hv_plain.specs.Name.{AllOptionNames, is_option_name as option_name};
 ghost use Rattle.hv_plain.specs.Model.{IsLineRead, IsRefusalOf};
 
@@ -23,6 +24,28 @@ pub enum ModelKind {
     Unknown,
     TooMany,
     NoConfiguration,
+}
+
+impl ModelKind {
+    /// The number in the table of faults, from 1 to 5.
+    pub fn number(&self) -> u8
+        ensures { result ≡ kind_number self.now }
+    {
+        *self as u8 + 1
+    }
+
+    /// The name in the table of faults.
+    pub fn name(&self) -> &'static str
+        ensures { result.now ≡ kind_name self.now }
+    {
+        match self {
+            ModelKind::BadLine => "BadLine",
+            ModelKind::Repeated => "Repeated",
+            ModelKind::Unknown => "Unknown",
+            ModelKind::TooMany => "TooMany",
+            ModelKind::NoConfiguration => "NoConfiguration",
+        }
+    }
 }
 
 /// The first fault of a model file.
@@ -49,7 +72,8 @@ pub struct Model {
 impl std::marker::Model for Model {
     ghost use Rattle.std.specs.Prelude.{ℕ, List, map, length, ◌≤◌};
     ghost use Rattle.std.specs.String.{string_bytes};
-    ghost use Rattle.hv_plain.specs.Name.{AllOptionNames, is_option_name as option_name};
+    ghost use Rattle.hv_plain.specs.ModelKind.{kind_name, kind_number};
+ghost use Rattle.hv_plain.specs.Name.{AllOptionNames, is_option_name as option_name};
 
     ghost Value = { List (List ℕ) };
 

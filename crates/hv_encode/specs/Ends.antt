@@ -1,0 +1,93 @@
+-- How a call of the program ends, status by status.
+use Rattle.std.specs.Prelude.{ℕ, ◌≡◌, ◌≢◌, ◌≤◌, ◌⊎◌, Bool, List, [], ◌++◌, length, Option, Some, None, IsTrue}
+use Rattle.hv_outside.specs.Count.{Rose}
+use Rattle.hv_outside.specs.Sink.{AddsFront}
+use Rattle.hv_plain.specs.declared.model.ModelFault.{ModelFault}
+use Rattle.hv_plain.specs.Config.{IsValid}
+use Rattle.hv_plain.specs.ModelFile.{model_of, options}
+use Rattle.hv_plain.specs.Source.{Line, IsSmallSource}
+use Rattle.hv_plain.specs.Program.{Program, IsProgramText}
+use Rattle.hv_plain.specs.Run.{IsVariant, run, start, no_start, undefined, variables_of}
+use Rattle.hv_encode.specs.declared.answer.Answer.{Answer}
+use Rattle.hv_encode.specs.declared.answer.Answer.TheVariants.{Encoded, LeftOut, BadWords, CannotRead, NoFile, TooBig, BadModel}
+use Rattle.hv_encode.specs.Answer.{output_of, message_of}
+use Rattle.hv_encode.specs.Due.{Reads, Command, command_of, IsDue}
+use Rattle.hv_encode.specs.Given.{Writes, IsWhole, IsUnwritten, IsStarved}
+
+-- the answer was due, and was given whole
+pub record Answers (words : List (List ℕ)) (reads : Reads) (w : Writes) (status : ℕ) (answer : Answer) : Type 0 where
+  pub due : IsDue reads words answer
+  pub whole : IsWhole w status answer
+
+-- a write of the answer that was due failed
+pub record Fails (words : List (List ℕ)) (reads : Reads) (w : Writes) (status : ℕ) : Type 0 where
+  pub answer : Answer
+  pub due : IsDue reads words answer
+  pub unwritten : IsUnwritten w status answer
+
+-- memory was wanting for the answer that was due, or before it was known; then nothing is in the output
+abbrev pub Starves : List (List ℕ) → Reads → Writes → ℕ → Type 0
+Starves words reads w status =
+    ((answer : Answer) × IsDue reads words answer × IsStarved w status (output_of answer) (message_of answer))
+    ⊎ IsStarved w status [] []
+
+-- status 3, by its three messages
+abbrev pub Unread : List (List ℕ) → Reads → Writes → ℕ → Type 0
+Unread words reads w status =
+    ((name : List ℕ) × Answers words reads w status (CannotRead name))
+    ⊎ (((name : List ℕ) × Answers words reads w status (NoFile name))
+    ⊎ ((name : List ℕ) × ((size : ℕ) × ((total : ℕ) × Answers words reads w status (TooBig name size total)))))
+
+-- the ways in which a call ends with a status
+pub data Ends (words : List (List ℕ)) (reads : Reads) (w : Writes) (status : ℕ) : Type 0 where
+  answered : (answer : Answer) → Answers words reads w status answer → Ends words reads w status
+  failed : Fails words reads w status → Ends words reads w status
+  starved : Starves words reads w status → Ends words reads w status
+
+-- The headline. The files and the output tell what they hold. Then the words name a model file and a
+-- main file; the model file gives options, and the main file is a small source; and the bytes written,
+-- behind what the output held, are a typed program which, started with a valid configuration, runs on
+-- every input and for every number of steps as the variant of that configuration, wherever the variant
+-- meets no undefined behaviour: the same output, the same input taken, the same end.
+pub record Headline (words : List (List ℕ)) (held : List ℕ → Option (List ℕ)) (before now : Option (List ℕ)) : Type 0 where
+  pub command : Command
+  pub words_are : command_of words ≡ Some command
+  pub model_file : List ℕ
+  pub model_held : held command.model ≡ Some model_file
+  pub source : List ℕ
+  pub source_held : held command.main ≡ Some source
+  pub names : List (List ℕ)
+  pub model_read : model_of model_file ≡ options names
+  pub body : List Line
+  pub source_read : IsSmallSource names source body
+  pub text : List ℕ
+  pub text_written : (so_far : List ℕ) → before ≡ Some so_far → now ≡ Some (so_far ++ text)
+  pub product : Program
+  pub product_read : IsProgramText (variables_of names) text product
+  pub agrees : (values : List Bool) → IsValid names values → (variant : Program) → IsVariant names source values variant → (input : List ℕ) (steps : ℕ)
+    → (run variant no_start input steps).ending ≢ undefined
+    → run product (start names values) input steps ≡ run variant no_start input steps
+
+-- what completeness asks of the words, the files and the source; and that no count of faults rose
+pub record IsGood (words : List (List ℕ)) (reads : Reads) (w : Writes) : Type 0 where
+  pub command : Command
+  pub words_are : command_of words ≡ Some command
+  pub told : IsTrue reads.told
+  pub model_file : List ℕ
+  pub model_held : reads.held command.model ≡ Some model_file
+  pub model_small : length model_file ≤ 16777216
+  pub source : List ℕ
+  pub source_held : reads.held command.main ≡ Some source
+  pub source_small : length source ≤ 16777216
+  pub names : List (List ℕ)
+  pub model_read : model_of model_file ≡ options names
+  pub body : List Line
+  pub source_read : IsSmallSource names source body
+  pub no_read_fault : Rose reads.faults_before reads.faults_now → ⊥
+  pub no_output_fault : Rose w.out_faults_before w.out_faults_now → ⊥
+  pub no_message_fault : Rose w.err_faults_before w.err_faults_now → ⊥
+
+-- status 0, every byte of the metaproduct written; or memory was wanting
+abbrev pub Succeeds : List (List ℕ) → Reads → Writes → ℕ → Type 0
+Succeeds words reads w status =
+    ((status ≡ 0) × ((text : List ℕ) × Answers words reads w status (Encoded text))) ⊎ (status ≡ 5)

@@ -1,0 +1,102 @@
+ghost use Rattle.std.specs.Prelude.{◌≡◌, ◌++◌, IfOk, codes};
+ghost use Rattle.std.specs.List.{flat_map};
+ghost use Rattle.hv_encode.specs.Answer.{message_of, output_of, status_of};
+
+use crate::Answer;
+use hv_base::{Memory, Text};
+use hv_plain::ModelFault;
+use itoa::Buffer;
+use std::alloc::Global;
+
+impl Answer {
+    /// The exit status of the program.
+    pub fn status(&self) -> u8
+        ensures { result ≡ status_of self.now }
+    {
+        match self {
+            Answer::Encoded(_) => 0,
+            Answer::LeftOut { .. } => 1,
+            Answer::BadWords => 2,
+            Answer::CannotRead { .. } | Answer::NoFile { .. } | Answer::TooBig { .. } => 3,
+            Answer::BadModel(_) => 7,
+        }
+    }
+
+    /// The bytes for the output.
+    pub fn output(&self) -> &[u8]
+        ensures { result.now ≡ output_of self.now }
+    {
+        match self {
+            Answer::Encoded(text) => text.as_slice(),
+            _ => &[],
+        }
+    }
+
+    /// The line for the messages, empty for success.
+    pub fn message(&self, alloc: Global) -> Result<Text, Memory>
+        ensures { IfOk result (λ text. text ≡ message_of self.now) }
+    {
+        match self {
+            Answer::Encoded(_) => Ok(Text::new(alloc)),
+            Answer::LeftOut { file } => joined(alloc, &[
+                b"hercules: fails config= file=".as_slice(),
+                file.as_slice(),
+                b" line=1 offset=0 via=- why=14 LeftOut\n".as_slice(),
+            ]),
+            Answer::BadWords => joined(alloc, &[b"hercules: bad words\n".as_slice()]),
+            Answer::CannotRead { name } => about(alloc, b"hercules: cannot read ", name),
+            Answer::NoFile { name } => about(alloc, b"hercules: no file ", name),
+            Answer::TooBig { name, size, total } => too_big(alloc, name, *size, *total),
+            Answer::BadModel(fault) => bad_model(alloc, fault),
+        }
+    }
+}
+
+/// The pieces, one behind the other.
+fn joined(alloc: Global, pieces: &[&[u8]]) -> Result<Text, Memory>
+    ensures { IfOk result (λ text. text ≡ flat_map (λ piece. piece.now) pieces.now) }
+{
+    let mut text = Text::new(alloc);
+    for piece in pieces {
+        text.extend_from_slice(piece)?;
+    }
+    Ok(text)
+}
+
+fn about(alloc: Global, what: &[u8], name: &Text) -> Result<Text, Memory>
+    ensures { IfOk result (λ text. text ≡ what.now ++ name.now ++ codes "\n") }
+{
+    joined(alloc, &[what, name.as_slice(), b"\n".as_slice()])
+}
+
+fn too_big(alloc: Global, name: &Text, size: u64, total: u64) -> Result<Text, Memory>
+    ensures { IfOk result (λ text. text ≡ message_of (Answer.TooBig name.now size total)) }
+{
+    let mut size_digits = Buffer::new();
+    let mut total_digits = Buffer::new();
+    joined(alloc, &[
+        b"hercules: too big ".as_slice(),
+        name.as_slice(),
+        b" ".as_slice(),
+        size_digits.format(size).as_bytes(),
+        b" ".as_slice(),
+        total_digits.format(total).as_bytes(),
+        b"\n".as_slice(),
+    ])
+}
+
+fn bad_model(alloc: Global, fault: &ModelFault) -> Result<Text, Memory>
+    ensures { IfOk result (λ text. text ≡ message_of (Answer.BadModel fault.now)) }
+{
+    let mut line_digits = Buffer::new();
+    let mut kind_digits = Buffer::new();
+    joined(alloc, &[
+        b"hercules: model line=".as_slice(),
+        line_digits.format(fault.line).as_bytes(),
+        b" kind=".as_slice(),
+        kind_digits.format(fault.kind.number()).as_bytes(),
+        b" ".as_slice(),
+        fault.kind.name().as_bytes(),
+        b"\n".as_slice(),
+    ])
+}
