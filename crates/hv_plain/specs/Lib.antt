@@ -5,4 +5,5 @@ pub mod ModelFile
 pub mod Name
 pub mod Program
 pub mod Run
+pub mod SmallReader
 pub mod Source

@@ -2,6 +2,8 @@ ghost use Rattle.std.specs.Prelude.{◌≡◌, [], List, length, IfOk, IfSome, I
 ghost use Rattle.hv_plain.specs.Program.{Program, IsProgramText};
 ghost use Rattle.hv_plain.specs.Run.{IsOutputOf, run, start, variables_of};
 
+mod reader;
+
 use crate::Model;
 use hv_base::{Config, Memory, Text};
 use std::alloc::Global;
