@@ -1,2 +1,7 @@
+pub mod ByteNumerals
 pub mod ListLemmas
+pub mod OptionVariables
 mod Rows
+pub mod SmallCompleteness
+pub mod SmallRun
+pub mod SmallSoundness

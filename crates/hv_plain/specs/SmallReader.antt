@@ -1,7 +1,7 @@
 -- What the reader of small programs computes, as a function on lists.
-use Rattle.std.specs.Prelude.{ℕ, ◌-◌, ◌+◌, ◌*◌, ◌==◌, Bool, true, false, cond, not, ◌&&◌, nat_le, nat_lt, List, [], ◌∷◌, ◌++◌, map, length, take, drop, codes, replicate, position, slice_set, slice_get, slice_index_or, Option, None, Some}
+use Rattle.std.specs.Prelude.{ℕ, ◌<◌, ◌-◌, ◌+◌, ◌*◌, ◌==◌, Bool, true, false, cond, not, ◌&&◌, nat_le, nat_lt, List, [], ◌∷◌, ◌++◌, map, length, take, drop, codes, replicate, position, slice_set, slice_get, slice_index_or, Option, None, Some}
 use Rattle.std.specs.List.{slice_split}
-use Rattle.std.specs.Option.{option_map}
+use Rattle.std.specs.Option.{option_map, option_and_then}
 use Rattle.std.specs.Str.{bytes_eq}
 use Rattle.hv_plain.specs.Bytes.{is_gap, is_empty}
 use Rattle.hv_plain.specs.Name.{is_digit}
@@ -115,6 +115,12 @@ next_by names known (word ∷ words) state token = cond (bytes_eq token word) (m
 abbrev pub next : List (List ℕ) → List (Option Bool) → Wanted → List ℕ → Option Reading
 next names known due token = next_by names known due.words due.state token
 
+-- what is declared is an option of the model
+abbrev pub IsWithin : ℕ → Action → Type 0
+IsWithin n Nothing = Unit {0}
+IsWithin n (Declare i) = i < n
+IsWithin n (Put _) = Unit {0}
+
 abbrev pub known_after : List Bool → Action → List (Option Bool) → List (Option Bool)
 known_after values Nothing known = known
 known_after values (Declare i) known = slice_set known i (slice_get values i)
@@ -141,10 +147,9 @@ is_done due = length due.words == 0 && is_end due.state
 -- the output of the tokens, from here on
 abbrev pub run_from : List (List ℕ) → List Bool → Wanted → List (Option Bool) → List ℕ → List (List ℕ) → Option (List ℕ)
 run_from names values due known output [] = cond (is_done due) (Some output) None
-run_from names values due known output (token ∷ tokens) = elim (next names known due token) [
-    | None ↦ None
-    | Some step ↦ run_from names values step.due (known_after values step.action known) (output_after step.action output) tokens
-    ]
+run_from names values due known output (token ∷ tokens) =
+    option_and_then (λ step. run_from names values step.due (known_after values step.action known) (output_after step.action output) tokens)
+      (next names known due token)
 
 abbrev pub start_due : Wanted
 start_due = wanted [] Declarations

@@ -1,8 +1,8 @@
-ghost use Rattle.std.specs.Prelude.{◌≡◌, length, map};
+ghost use Rattle.std.specs.Prelude.{◌≡◌, length, map, IfOk, OnOk};
 ghost use Rattle.std.specs.Option.{option_map};
 ghost use Rattle.hv_plain.specs.Bytes.{is_gap};
 ghost use Rattle.hv_plain.specs.declared.small.reader.Action.TheVariants.{Nothing};
-ghost use Rattle.hv_plain.specs.SmallReader.{byte_of, known_value, is_done, next, next_behind_operand, next_in, next_in_body, next_in_declarations, option_number, reading, reading_of, wanted_of};
+ghost use Rattle.hv_plain.specs.SmallReader.{IsWithin, answer, byte_of, known_value, is_done, known_after, next, next_behind_operand, next_in, next_in_body, next_in_declarations, option_number, output_after, reading, reading_of, wanted_of};
 
 use crate::Model;
 use hv_base::{Config, Memory, Text};
@@ -200,4 +200,41 @@ impl Due {
     {
         self.words.is_empty() && matches!(self.state, State::End)
     }
+}
+
+/// Does what is to be done at a token: `known` has the values of the variables declared so far, by
+/// the numbers of their options.
+fn perform(action: Action, config: &Config, known: &mut Vec<Option<bool>>, output: &mut Text) -> Result<(), Memory>
+    requires { IsWithin (length known.old.items) action }
+    ensures known { known.new.items ≡ known_after config.now.on action known.old.items }
+    ensures output { OnOk result (output.new ≡ output_after action output.old) }
+{
+    match action {
+        Action::Nothing => Ok(()),
+        Action::Declare(option) => {
+            known[option] = config.on.get(option).copied();
+            Ok(())
+        }
+        Action::Put(byte) => output.push(byte).map_err(|_| Memory),
+    }
+}
+
+/// The output of the small program that `text` is, or `None` where it is none.
+pub fn read(alloc: Global, text: &[u8], model: &Model, config: &Config) -> Result<Option<Text>, Memory>
+    ensures { IfOk result (λ output. output ≡ answer model.now config.now.on text.now) }
+{
+    let mut known = vec![in alloc; None; model.options()]?;
+    let mut output = Text::new(alloc);
+    let mut due = Due {
+        words: &[],
+        state: State::Declarations,
+    };
+    for token in text.split(|byte| is_gap(*byte)) {
+        let Some(step) = due.next(model, known.as_slice(), token) else {
+            return Ok(None);
+        };
+        perform(step.action, config, &mut known, &mut output)?;
+        due = step.due;
+    }
+    if due.is_done() { Ok(Some(output)) } else { Ok(None) }
 }
