@@ -165,3 +165,205 @@ if_more variables given token tokens holds e due =
       typed = All-cons (IsTypedStatement variables) statement last.statements typed last.typed;
       are = cc;
     }
+
+body_end : (variables given : List (List ℕ)) (token : List ℕ) (tokens : Tokens) → token ≡ codes "}" → IsDue given variables ([] ∷ []) End tokens → Statements variables (token ∷ tokens)
+body_end variables given token tokens e due =
+    let p = due.are in
+    let q : due.rest ≡ [] = due.follow in
+    record {
+      statements = [];
+      typed = All-nil (IsTypedStatement variables);
+      are = cc;
+    }
+
+negated_test : (variables given : List (List ℕ)) (token : List ℕ) (tokens : Tokens) (holds : Bool) → token ≡ codes "!" → IsDue given variables [] (Negated holds) tokens → Test variables (token ∷ tokens)
+negated_test variables given token tokens holds e due =
+    let test : NegatedTest variables due.rest = due.follow in
+    let p = due.are in
+    let q = test.are in
+    record {
+      literal = record { variable = test.variable; negated = true };
+      known = test.known;
+      rest = test.rest;
+      are = cc;
+      follow = test.follow;
+    }
+
+literals_more : (variables given : List (List ℕ)) (token : List ℕ) (tokens : Tokens) (holds : Bool) → token ≡ codes "&&" → IsDue given variables [] (Operand holds) tokens → Literals variables (token ∷ tokens)
+literals_more variables given token tokens holds e due =
+    let test : Test variables due.rest = due.follow in
+    let last : Literals variables test.rest = test.follow in
+    let p = due.are in
+    let q = test.are in
+    let r = last.are in
+    let s = append_assoc (literal_tokens test.literal) (more_tokens last.literals) (codes ")" ∷ codes "putchar" ∷ codes "(" ∷ last.rest) in
+    record {
+      literals = test.literal ∷ last.literals;
+      known = All-cons (IsDeclared variables) test.literal last.literals test.known last.known;
+      rest = last.rest;
+      are = cc;
+      follow = last.follow;
+    }
+
+literals_end : (variables given : List (List ℕ)) (token : List ℕ) (tokens : Tokens) (holds : Bool) → token ≡ codes ")" → IsDue given variables (codes "putchar" ∷ codes "(" ∷ []) (Byte holds) tokens → Literals variables (token ∷ tokens)
+literals_end variables given token tokens holds e due =
+    let p = due.are in
+    record {
+      literals = [];
+      known = All-nil (IsDeclared variables);
+      rest = due.rest;
+      are = cc;
+      follow = due.follow;
+    }
+
+-- which way a test of a token went
+taken : {X Y : Type 0} (then : X → Option Y) (b : Bool) (x : X) (rest : Option X) (y : Y) → option_and_then then (cond b (Some x) rest) ≡ Some y → ((b ≡ true) × (then x ≡ Some y)) ⊎ (option_and_then then rest ≡ Some y)
+taken then true x rest y e = inl (refl, e)
+taken then false x rest y e = inr e
+
+declared_some : {Y : Type 0} (then : Reading → Option Y) (o : Option ℕ) (y : Y) → option_and_then then (declared o) ≡ Some y → (i : ℕ) × (o ≡ Some i) × (then (reading (codes ";" ∷ []) Declarations (Declare i)) ≡ Some y)
+declared_some then None y e = absurd (none-some y e)
+declared_some then (Some i) y e = (i, refl, e)
+
+operand_some : {Y : Type 0} (then : Reading → Option Y) (holds : Bool) (o : Option Bool) (y : Y) → option_and_then then (behind_operand holds o) ≡ Some y → (value : Bool) × (o ≡ Some value) × (then (reading [] (AfterOperand (holds && value)) Nothing) ≡ Some y)
+operand_some then holds None y e = absurd (none-some y e)
+operand_some then holds (Some value) y e = (value, refl, e)
+
+negated_some : {Y : Type 0} (then : Reading → Option Y) (holds : Bool) (o : Option Bool) (y : Y) → option_and_then then (behind_negated holds o) ≡ Some y → (value : Bool) × (o ≡ Some value) × (then (reading [] (AfterOperand (holds && not value)) Nothing) ≡ Some y)
+negated_some then holds None y e = absurd (none-some y e)
+negated_some then holds (Some value) y e = (value, refl, e)
+
+byte_some : {Y : Type 0} (then : Reading → Option Y) (holds : Bool) (o : Option ℕ) (y : Y) → option_and_then then (behind_byte holds o) ≡ Some y → (byte : ℕ) × (o ≡ Some byte) × (then (reading (codes ")" ∷ codes ";" ∷ []) Body (cond holds (Put byte) Nothing)) ≡ Some y)
+byte_some then holds None y e = absurd (none-some y e)
+byte_some then holds (Some byte) y e = (byte, refl, e)
+
+known_after-byte : (values : List Bool) (holds : Bool) (byte : ℕ) (known : List (Option Bool)) → known_after values (cond holds (Put byte) Nothing) known ≡ known
+known_after-byte values true byte known = refl
+known_after-byte values false byte known = refl
+
+end_due : (given variables : List (List ℕ)) (words : List (List ℕ)) (state : State) → is_done (wanted words state) ≡ true → IsDue given variables words state []
+end_due given variables [] Declarations e = cc
+end_due given variables [] Variable e = cc
+end_due given variables [] Body e = cc
+end_due given variables [] (Operand _) e = cc
+end_due given variables [] (Negated _) e = cc
+end_due given variables [] (AfterOperand _) e = cc
+end_due given variables [] (Byte _) e = cc
+end_due given variables [] End e = record { rest = []; are = refl; follow = refl }
+end_due given variables (word ∷ words) state e = absurd (grind (arith, nat_tests))
+
+abbrev after : List (List ℕ) → List Bool → List (Option Bool) → List ℕ → Tokens → Reading → Option (List ℕ)
+after names values known output tokens step = run_from names values step.due (known_after values step.action known) (output_after step.action output) tokens
+
+-- what is read to an end is what was due
+sound : (names : List (List ℕ)) (values : List Bool) (variables : List (List ℕ)) (known : List (Option Bool)) (output : List ℕ) (words : List (List ℕ)) (state : State) (tokens : Tokens) (o : List ℕ) → length values ≡ length names → length known ≡ length names → Agrees names values variables known → run_from names values (wanted words state) known output tokens ≡ Some o → IsDue (variables_of names) variables words state tokens
+sound names values variables known output words state [] o l m a e = end_due (variables_of names) variables words state ((cond_some (is_done (wanted words state)) output o e).0)
+sound names values variables known output (word ∷ words) state (token ∷ tokens) o l m a e = elim (taken (after names values known output tokens) (bytes_eq token word) (reading words state Nothing) None o e) [
+    | inl p ↦
+      let due = sound names values variables known output words state tokens o l m a p.1 in
+      let text = same_text token word p.0 in
+      let q = due.are in
+      record { rest = due.rest; are = cc; follow = due.follow }
+    | inr p ↦ absurd (none-some o p)
+    ]
+sound names values variables known output [] Declarations (token ∷ tokens) o l m a e = elim (taken (after names values known output tokens) (bytes_eq token (codes "extern")) (reading (codes "int" ∷ []) Variable Nothing) (cond (bytes_eq token (codes "int")) (moved rest_of_head Body) None) o e) [
+    | inl p ↦ record { rest = token ∷ tokens; are = refl; follow = heads_more (variables_of names) variables token tokens (same_text token (codes "extern") p.0) (sound names values variables known output (codes "int" ∷ []) Variable tokens o l m a p.1) }
+    | inr f ↦ elim (taken (after names values known output tokens) (bytes_eq token (codes "int")) (reading rest_of_head Body Nothing) None o f) [
+      | inl p ↦ record { rest = token ∷ tokens; are = refl; follow = heads_end (variables_of names) variables token tokens (same_text token (codes "int") p.0) (sound names values variables known output rest_of_head Body tokens o l m a p.1) }
+      | inr p ↦ absurd (none-some o p)
+      ]
+    ]
+sound names values variables known output [] Variable (token ∷ tokens) o l m a e =
+    let p = declared_some (after names values known output tokens) (option_number names token) o e in
+    let next_known : List (Option Bool) = set known p.0 (slice_get values p.0) in
+    let due = sound names values (variables ++ token ∷ []) next_known output (codes ";" ∷ []) Declarations tokens o l (length-set known p.0 (slice_get values p.0) ∙ m) (Agrees-declare names values variables known token p.0 p.1 l m a) p.2 in
+    let new : NewVariable (variables_of names) variables (token ∷ tokens) = record {
+      variable = token;
+      is_given = given-option_number names token p.0 p.1;
+      rest = due.rest;
+      are = ap (λ (x : Tokens). token ∷ x) due.are;
+      follow = due.follow;
+    } in
+    record { rest = token ∷ tokens; are = refl; follow = new }
+sound names values variables known output [] Body (token ∷ tokens) o l m a e = elim (taken (after names values known output tokens) (bytes_eq token (codes "putchar")) (reading (codes "(" ∷ []) (Byte true) Nothing) (cond (bytes_eq token (codes "if")) (moved (codes "(" ∷ []) (Operand true)) (cond (bytes_eq token (codes "}")) (moved ([] ∷ []) End) None)) o e) [
+    | inl p ↦ record { rest = token ∷ tokens; are = refl; follow = call_more variables (variables_of names) token tokens true (same_text token (codes "putchar") p.0) (sound names values variables known output (codes "(" ∷ []) (Byte true) tokens o l m a p.1) }
+    | inr f ↦ elim (taken (after names values known output tokens) (bytes_eq token (codes "if")) (reading (codes "(" ∷ []) (Operand true) Nothing) (cond (bytes_eq token (codes "}")) (moved ([] ∷ []) End) None) o f) [
+      | inl p ↦ record { rest = token ∷ tokens; are = refl; follow = if_more variables (variables_of names) token tokens true (same_text token (codes "if") p.0) (sound names values variables known output (codes "(" ∷ []) (Operand true) tokens o l m a p.1) }
+      | inr g ↦ elim (taken (after names values known output tokens) (bytes_eq token (codes "}")) (reading ([] ∷ []) End Nothing) None o g) [
+        | inl p ↦ record { rest = token ∷ tokens; are = refl; follow = body_end variables (variables_of names) token tokens (same_text token (codes "}") p.0) (sound names values variables known output ([] ∷ []) End tokens o l m a p.1) }
+        | inr p ↦ absurd (none-some o p)
+        ]
+      ]
+    ]
+sound names values variables known output [] (Operand holds) (token ∷ tokens) o l m a e = elim (taken (after names values known output tokens) (bytes_eq token (codes "!")) (reading [] (Negated holds) Nothing) (behind_operand holds (known_value names known token)) o e) [
+    | inl p ↦ record { rest = token ∷ tokens; are = refl; follow = negated_test variables (variables_of names) token tokens holds (same_text token (codes "!") p.0) (sound names values variables known output [] (Negated holds) tokens o l m a p.1) }
+    | inr f ↦
+      let p = operand_some (after names values known output tokens) holds (known_value names known token) o f in
+      let due = sound names values variables known output [] (AfterOperand (holds && p.0)) tokens o l m a p.2 in
+      let test : Test variables (token ∷ tokens) = record {
+        literal = record { variable = token; negated = false };
+        known = a.sound token p.0 p.1;
+        rest = due.rest;
+        are = ap (λ (x : Tokens). token ∷ x) due.are;
+        follow = due.follow;
+      } in
+      record { rest = token ∷ tokens; are = refl; follow = test }
+    ]
+sound names values variables known output [] (Negated holds) (token ∷ tokens) o l m a e =
+    let p = negated_some (after names values known output tokens) holds (known_value names known token) o e in
+    let due = sound names values variables known output [] (AfterOperand (holds && not p.0)) tokens o l m a p.2 in
+    let test : NegatedTest variables (token ∷ tokens) = record {
+      variable = token;
+      known = a.sound token p.0 p.1;
+      rest = due.rest;
+      are = ap (λ (x : Tokens). token ∷ x) due.are;
+      follow = due.follow;
+    } in
+    record { rest = token ∷ tokens; are = refl; follow = test }
+sound names values variables known output [] (AfterOperand holds) (token ∷ tokens) o l m a e = elim (taken (after names values known output tokens) (bytes_eq token (codes "&&")) (reading [] (Operand holds) Nothing) (cond (bytes_eq token (codes ")")) (moved (codes "putchar" ∷ codes "(" ∷ []) (Byte holds)) None) o e) [
+    | inl p ↦ record { rest = token ∷ tokens; are = refl; follow = literals_more variables (variables_of names) token tokens holds (same_text token (codes "&&") p.0) (sound names values variables known output [] (Operand holds) tokens o l m a p.1) }
+    | inr f ↦ elim (taken (after names values known output tokens) (bytes_eq token (codes ")")) (reading (codes "putchar" ∷ codes "(" ∷ []) (Byte holds) Nothing) None o f) [
+      | inl p ↦ record { rest = token ∷ tokens; are = refl; follow = literals_end variables (variables_of names) token tokens holds (same_text token (codes ")") p.0) (sound names values variables known output (codes "putchar" ∷ codes "(" ∷ []) (Byte holds) tokens o l m a p.1) }
+      | inr p ↦ absurd (none-some o p)
+      ]
+    ]
+sound names values variables known output [] (Byte holds) (token ∷ tokens) o l m a e =
+    let p = byte_some (after names values known output tokens) holds (byte_of token) o e in
+    let same : known_after values (cond holds (Put p.0) Nothing) known ≡ known = known_after-byte values holds p.0 known in
+    let due = sound names values variables (known_after values (cond holds (Put p.0) Nothing) known) (output_after (cond holds (Put p.0) Nothing) output) (codes ")" ∷ codes ";" ∷ []) Body tokens o l (ap length same ∙ m) (rw same a) p.2 in
+    let numeral = decimal-byte_of token p.0 p.1 in
+    let q = numeral.1 in
+    let r = due.are in
+    let call : Call variables (token ∷ tokens) = record {
+      byte = p.0;
+      small = numeral.0;
+      rest = due.rest;
+      are = cc;
+      follow = due.follow;
+    } in
+    record { rest = token ∷ tokens; are = refl; follow = call }
+sound names values variables known output [] End (token ∷ tokens) o l m a e = absurd (none-some o e)
+
+tokens_joined : (d h s e : Tokens) (last : Tokens) → d ++ h ++ (s ++ (e ++ last)) ≡ (d ++ h ++ s ++ e) ++ last
+tokens_joined d h s e last = simp append_assoc
+
+-- the program that tokens are
+pub record IsRead (names : List (List ℕ)) (tokens : Tokens) : Type 0 where
+  pub program : Program
+  pub are : tokens ≡ program_tokens program ++ [] ∷ []
+  pub typed : IsTyped (variables_of names) program
+
+pub tokens_read : (names : List (List ℕ)) (values : List Bool) (tokens : Tokens) (o : List ℕ) → length values ≡ length names → run_from names values start_due (unknown names) [] tokens ≡ Some o → IsRead names tokens
+tokens_read names values tokens o l e =
+    let due = sound names values [] (unknown names) [] [] Declarations tokens o l (length-replicate (length names) None) (Agrees-start names values) e in
+    let heads : Heads (variables_of names) [] due.rest = due.follow in
+    let last : Statements heads.more heads.rest = heads.follow in
+    let p = due.are in
+    let q = heads.are in
+    let r = last.are in
+    let s = tokens_joined (flat_map declaration_tokens heads.more) head_tokens (flat_map statement_tokens last.statements) (codes "}" ∷ []) ([] ∷ []) in
+    record {
+      program = record { variables = heads.more; statements = last.statements };
+      are = cc;
+      typed = record { variables = heads.are_given; statements = last.typed };
+    }

@@ -230,11 +230,13 @@ pub fn read(alloc: Global, text: &[u8], model: &Model, config: &Config) -> Resul
         state: State::Declarations,
     };
     for token in text.split(|byte| is_gap(*byte)) {
-        let Some(step) = due.next(model, known.as_slice(), token) else {
-            return Ok(None);
-        };
-        perform(step.action, config, &mut known, &mut output)?;
-        due = step.due;
+        match due.next(model, known.as_slice(), token) {
+            Some(step) => {
+                perform(step.action, config, &mut known, &mut output)?;
+                due = step.due;
+            }
+            None => return Ok(None),
+        }
     }
     if due.is_done() { Ok(Some(output)) } else { Ok(None) }
 }
