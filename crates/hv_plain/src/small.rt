@@ -19,9 +19,5 @@ pub fn small_run(alloc: Global, text: &[u8], model: &Model, config: &Config) -> 
     ensures refused { IfOk result (λ answer. IfNone answer
         ((program : Program) → ¬ (IsProgramText (variables_of model.now) text.now program))) }
 {
-    let _ = alloc;
-    let _ = text;
-    let _ = model;
-    let _ = config;
-    Err(Memory)
+    reader::read(alloc, text, model, config)
 }
