@@ -1,6 +1,7 @@
 pub mod ByteNumerals
 pub mod ListLemmas
 pub mod OptionVariables
+pub mod Places
 mod Rows
 pub mod SmallAnswer
 pub mod SmallCompleteness

@@ -3,32 +3,15 @@ use Rattle.std.proofs.Common.{◌≡◌, ◌≢◌, ℕ, suc, zero, ◌<◌, ◌
 use Rattle.std.specs.List.{position, position_or_len, Contains, slice_get}
 use Rattle.std.specs.Str.{bytes_eq}
 use Rattle.std.proofs.lemmas.Slice.Eq.{bytes_eq-Decides}
-use Rattle.std.proofs.lemmas.List.{take-append-drop, get_or-set_same, get_or-set_other}
+use Rattle.std.proofs.lemmas.List.{take-append-drop, get_or-set_same, get_or-set_other, get_or-map}
 use Rattle.std.proofs.lemmas.List.Quantifiers.{position-Some}
 use Rattle.std.proofs.lemmas.List.Elements.{Contains-append_left, Contains-append_right, Contains-append_cases}
 use Rattle.std.proofs.lemmas.Option.{cond_some, none-some, same_Some, slice_get-get_or}
 use Rattle.std.proofs.lemmas.Bool.Decides.{nat_tests, eqb_tells}
 use Rattle.hv_plain.proofs.ListLemmas.{length-map}
+use Rattle.hv_plain.proofs.Places.{position-exists, cond_value, get_or-replicate_default, Contains-single}
 use Rattle.hv_plain.specs.Run.{start, variable_of, variables_of}
 use Rattle.hv_plain.specs.SmallReader.{option_number, at_option, known_value, unknown}
-
-behind_miss : (b : Bool) (m n : ℕ) → m < n → cond (not b) (1 + m) 0 < suc n
-behind_miss true m n h = omega arith
-behind_miss false m n h = omega arith
-
-pub position_or_len-lt : {X : Type 0} (p : X → Bool) (xs : List X) (k : ℕ) (d : X) → k < length xs → p (get_or xs k d) ≡ true → position_or_len p xs < length xs
-position_or_len-lt p [] k d h e = absurd (omega arith)
-position_or_len-lt p (x ∷ xs) zero d h e = let here : p x ≡ true = e in rw here (omega arith)
-position_or_len-lt p (x ∷ xs) (suc k) d h e = behind_miss (p x) _ _ (position_or_len-lt p xs k d (omega arith) e)
-
-pub position-exists : {X : Type 0} (p : X → Bool) (xs : List X) (k : ℕ) (d : X) → k < length xs → p (get_or xs k d) ≡ true → (i : ℕ) × (position p xs ≡ Some i)
-position-exists p xs k d h e =
-    let lt : position_or_len p xs < length xs = position_or_len-lt p xs k d h e in
-    (position_or_len p xs, grind (arith, nat_tests))
-
-pub cond_value : {X : Type 0} (b : Bool) (o : Option X) (x : X) → cond b o None ≡ Some x → (b ≡ true) × (o ≡ Some x)
-cond_value true o x e = (refl, e)
-cond_value false o x e = absurd (none-some x e)
 
 -- a variable that has a number is that option's
 pub option_number-Some : (names : List (List ℕ)) (v : List ℕ) (i : ℕ) → option_number names v ≡ Some i → (i < length names) × (v ≡ variable_of (get_or names i []))
@@ -44,9 +27,7 @@ pub option_number-same : (names : List (List ℕ)) (v w : List ℕ) (i : ℕ) �
 option_number-same names v w i e f = (option_number-Some names v i e).1 ∙ sym ((option_number-Some names w i f).1)
 
 get_or-variables : (names : List (List ℕ)) (i : ℕ) (d : List ℕ) → i < length names → get_or (variables_of names) i d ≡ variable_of (get_or names i [])
-get_or-variables [] i d h = absurd (omega arith)
-get_or-variables (name ∷ names) zero d h = refl
-get_or-variables (name ∷ names) (suc i) d h = get_or-variables names i d (omega arith)
+get_or-variables names i d h = get_or-map variable_of names i [] d h
 
 length-variables : (names : List (List ℕ)) → length (variables_of names) ≡ length names
 length-variables names = length-map variable_of names
@@ -91,11 +72,6 @@ pub record Agrees (names : List (List ℕ)) (values : List Bool) (variables : Li
   pub complete : (v : List ℕ) → Contains variables v → known_value names known v ≡ Some (is_true names values v)
   pub sound : (v : List ℕ) (value : Bool) → known_value names known v ≡ Some value → Contains variables v
 
-get_or-replicate_default : {X : Type 0} (n i : ℕ) (x : X) → get_or (replicate n x) i x ≡ x
-get_or-replicate_default zero i x = refl
-get_or-replicate_default (suc n) zero x = refl
-get_or-replicate_default (suc n) (suc i) x = get_or-replicate_default n i x
-
 at_option-unknown : (n : ℕ) (o : Option ℕ) → at_option (replicate n None) o ≡ None
 at_option-unknown n None = refl
 at_option-unknown n (Some i) = get_or-replicate_default n i None
@@ -136,10 +112,6 @@ set_gives known i x (Some j) value e = elim (eqb_tells j i) [
     | inr t ↦ inr (sym (at_option-set_other known i j x (Some j) refl t.1) ∙ e)
     ]
 
-single : (v w : List ℕ) → Contains (v ∷ []) w → v ≡ w
-single v w (zero, h, e) = e
-single v w (suc k, h, e) = absurd (omega arith)
-
 pub Agrees-declare : (names : List (List ℕ)) (values : List Bool) (variables : List (List ℕ)) (known : List (Option Bool)) (v : List ℕ) (i : ℕ) → option_number names v ≡ Some i → length values ≡ length names → length known ≡ length names → Agrees names values variables known → Agrees names values (variables ++ v ∷ []) (set known i (slice_get values i))
 Agrees-declare names values variables known v i e l m a =
     let inside : i < length names = (option_number-Some names v i e).0 in
@@ -148,7 +120,7 @@ Agrees-declare names values variables known v i e l m a =
         | inl g ↦ set_keeps known i (slice_get values i) (option_number names w) (is_true names values w) (a.complete w g) (λ number. is_true-option names values w i number l) (omega arith)
         | inr g ↦
           let IsKnown : List ℕ → Type 0 = λ x. known_value names (set known i (slice_get values i)) x ≡ Some (is_true names values x) in
-          subst IsKnown (single v w g) (at_option-set_same known i (slice_get values i) (option_number names v) e (omega arith) ∙ is_true-option names values v i e l)
+          subst IsKnown (Contains-single v w g) (at_option-set_same known i (slice_get values i) (option_number names v) e (omega arith) ∙ is_true-option names values v i e l)
         ];
       sound = λ w value h. elim (set_gives known i (slice_get values i) (option_number names w) value h) [
         | inl number ↦ Contains-append_right variables (v ∷ []) w (0, omega arith, option_number-same names v w i e number)

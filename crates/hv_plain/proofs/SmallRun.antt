@@ -12,7 +12,7 @@ use Rattle.hv_plain.specs.declared.small.reader.Action.TheVariants.{Nothing, Dec
 use Rattle.hv_plain.proofs.OptionVariables.{option_number-Some}
 
 -- the run behind a token
-abbrev after : List (List ℕ) → List Bool → List (Option Bool) → List ℕ → List (List ℕ) → Reading → Option (List ℕ)
+abbrev pub after : List (List ℕ) → List Bool → List (Option Bool) → List ℕ → List (List ℕ) → Reading → Option (List ℕ)
 after names values known output tokens step = run_from names values step.due (known_after values step.action known) (output_after step.action output) tokens
 
 run_from-turn : (names : List (List ℕ)) (values : List Bool) (due : Wanted) (known : List (Option Bool)) (output : List ℕ) (tokens : List (List ℕ)) (n : ℕ) (token : List ℕ) → (n < length tokens) × (token ≡ get_or tokens n token) → run_from names values due known output (drop n tokens) ≡ option_and_then (after names values known output (drop (n + 1) tokens)) (next names known due token)

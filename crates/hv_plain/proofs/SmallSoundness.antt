@@ -15,6 +15,7 @@ use Rattle.hv_plain.specs.declared.small.reader.State.{State}
 use Rattle.hv_plain.specs.declared.small.reader.State.TheVariants.{Declarations, Variable, Body, Operand, Negated, AfterOperand, Byte, End}
 use Rattle.hv_plain.specs.declared.small.reader.Action.TheVariants.{Nothing, Declare, Put}
 use Rattle.hv_plain.proofs.ByteNumerals.{decimal-byte_of}
+use Rattle.hv_plain.proofs.SmallRun.{after}
 use Rattle.hv_plain.proofs.OptionVariables.{Agrees, Agrees-start, Agrees-declare, given-option_number}
 
 abbrev Tokens : Type 0
@@ -251,9 +252,6 @@ end_due given variables [] (AfterOperand _) e = cc
 end_due given variables [] (Byte _) e = cc
 end_due given variables [] End e = record { rest = []; are = refl; follow = refl }
 end_due given variables (word ∷ words) state e = absurd (grind (arith, nat_tests))
-
-abbrev after : List (List ℕ) → List Bool → List (Option Bool) → List ℕ → Tokens → Reading → Option (List ℕ)
-after names values known output tokens step = run_from names values step.due (known_after values step.action known) (output_after step.action output) tokens
 
 -- what is read to an end is what was due
 sound : (names : List (List ℕ)) (values : List Bool) (variables : List (List ℕ)) (known : List (Option Bool)) (output : List ℕ) (words : List (List ℕ)) (state : State) (tokens : Tokens) (o : List ℕ) → length values ≡ length names → length known ≡ length names → Agrees names values variables known → run_from names values (wanted words state) known output tokens ≡ Some o → IsDue (variables_of names) variables words state tokens

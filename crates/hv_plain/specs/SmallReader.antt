@@ -1,4 +1,5 @@
--- What the reader of small programs computes, as a function on lists.
+-- What the functions of the reader of small programs compute, token by token. Nothing that is promised
+-- rests on it: `small_run` says what its answer is in the words of Program and Run alone.
 use Rattle.std.specs.Prelude.{ℕ, ◌<◌, ◌-◌, ◌+◌, ◌*◌, ◌==◌, Bool, true, false, cond, not, ◌&&◌, nat_le, nat_lt, List, [], ◌∷◌, ◌++◌, map, length, take, drop, codes, replicate, position, slice_set, slice_get, slice_index_or, Option, None, Some}
 use Rattle.std.specs.List.{slice_split}
 use Rattle.std.specs.Option.{option_map, option_and_then}
@@ -88,6 +89,9 @@ abbrev pub behind_negated : Bool → Option Bool → Option Reading
 behind_negated holds None = None
 behind_negated holds (Some value) = moved [] (AfterOperand (holds && not value))
 
+abbrev pub next_at_operand : Bool → Option Bool → List ℕ → Option Reading
+next_at_operand holds value token = cond (bytes_eq token (codes "!")) (moved [] (Negated holds)) (behind_operand holds value)
+
 abbrev pub next_behind_operand : Bool → List ℕ → Option Reading
 next_behind_operand holds token =
     cond (bytes_eq token (codes "&&")) (moved [] (Operand holds))
@@ -101,8 +105,7 @@ abbrev pub next_in : List (List ℕ) → List (Option Bool) → State → List �
 next_in names known Declarations token = next_in_declarations token
 next_in names known Variable token = declared (option_number names token)
 next_in names known Body token = next_in_body token
-next_in names known (Operand holds) token =
-    cond (bytes_eq token (codes "!")) (moved [] (Negated holds)) (behind_operand holds (known_value names known token))
+next_in names known (Operand holds) token = next_at_operand holds (known_value names known token) token
 next_in names known (Negated holds) token = behind_negated holds (known_value names known token)
 next_in names known (AfterOperand holds) token = next_behind_operand holds token
 next_in names known (Byte holds) token = behind_byte holds (byte_of token)

@@ -2,7 +2,7 @@ ghost use Rattle.std.specs.Prelude.{◌≡◌, length, map, IfOk, OnOk};
 ghost use Rattle.std.specs.Option.{option_map};
 ghost use Rattle.hv_plain.specs.Bytes.{is_gap};
 ghost use Rattle.hv_plain.specs.declared.small.reader.Action.TheVariants.{Nothing};
-ghost use Rattle.hv_plain.specs.SmallReader.{IsWithin, answer, byte_of, known_value, is_done, known_after, next, next_behind_operand, next_in, next_in_body, next_in_declarations, option_number, output_after, reading, reading_of, wanted_of};
+ghost use Rattle.hv_plain.specs.SmallReader.{IsWithin, answer, behind_byte, behind_negated, byte_of, declared, known_value, is_done, known_after, next, next_at_operand, next_behind_operand, next_in, next_in_body, next_in_declarations, option_number, output_after, reading, reading_of, wanted_of};
 
 use crate::Model;
 use hv_base::{Config, Memory, Text};
@@ -14,7 +14,7 @@ const REST_OF_HEAD: [&str; 11] = ["putchar", "(", "int", ")", ";", "int", "main"
 /// Where a small program goes on. A `bool` says whether the literals of the test that have been read
 /// all hold.
 #[derive(Clone, Copy)]
-pub enum State {
+enum State {
     /// At a declaration.
     Declarations,
     /// At the name in the declaration of an option variable.
@@ -35,14 +35,14 @@ pub enum State {
 
 /// What has to follow in a text: these words, and then what the state says.
 #[derive(Clone, Copy)]
-pub struct Due {
-    pub words: &'static [&'static str],
-    pub state: State,
+struct Due {
+    words: &'static [&'static str],
+    state: State,
 }
 
 /// What is to be done at a token.
 #[derive(Clone, Copy)]
-pub enum Action {
+enum Action {
     Nothing,
     /// The variable of the option of this number is declared.
     Declare(usize),
@@ -52,9 +52,9 @@ pub enum Action {
 
 /// The reading of a token: what is due behind it, and what is to be done.
 #[derive(Clone, Copy)]
-pub struct Step {
-    pub due: Due,
-    pub action: Action,
+struct Step {
+    due: Due,
+    action: Action,
 }
 
 impl Step {
@@ -106,6 +106,7 @@ fn byte_of(token: &[u8]) -> Option<u8>
     }
 }
 
+/// Reads the first token of a declaration, or that of the declaration of `putchar`.
 fn next_in_declarations(token: &[u8]) -> Option<Step>
     ensures { option_map reading_of result ≡ next_in_declarations token.now }
 {
@@ -116,6 +117,7 @@ fn next_in_declarations(token: &[u8]) -> Option<Step>
     }
 }
 
+/// Reads the first token of a statement, or the brace behind the last.
 fn next_in_body(token: &[u8]) -> Option<Step>
     ensures { option_map reading_of result ≡ next_in_body token.now }
 {
@@ -127,6 +129,7 @@ fn next_in_body(token: &[u8]) -> Option<Step>
     }
 }
 
+/// Reads what stands behind a literal.
 fn next_behind_operand(holds: bool, token: &[u8]) -> Option<Step>
     ensures { option_map reading_of result ≡ next_behind_operand holds token.now }
 {
@@ -137,6 +140,56 @@ fn next_behind_operand(holds: bool, token: &[u8]) -> Option<Step>
     }
 }
 
+/// Reads the `!` or the variable at which a literal begins.
+fn next_at_operand(holds: bool, model: &Model, known: &[Option<bool>], token: &[u8]) -> Option<Step>
+    requires { length known.now ≡ length model.now }
+    ensures { option_map reading_of result ≡ next_at_operand holds (known_value model.now known.now token.now) token.now }
+{
+    if token == b"!".as_slice() {
+        Some(Step::to(&[], State::Negated(holds)))
+    } else {
+        let value = known_value(model, known, token)?;
+        Some(Step::to(&[], State::AfterOperand(holds && value)))
+    }
+}
+
+/// Reads the variable of a negated literal.
+fn next_at_negated(holds: bool, model: &Model, known: &[Option<bool>], token: &[u8]) -> Option<Step>
+    requires { length known.now ≡ length model.now }
+    ensures { option_map reading_of result ≡ behind_negated holds (known_value model.now known.now token.now) }
+{
+    let value = known_value(model, known, token)?;
+    Some(Step::to(&[], State::AfterOperand(holds && !value)))
+}
+
+/// Reads the argument of `putchar`, which is put where the test holds.
+fn next_at_byte(holds: bool, token: &[u8]) -> Option<Step>
+    ensures { option_map reading_of result ≡ behind_byte holds (byte_of token.now) }
+{
+    let byte = byte_of(token)?;
+    Some(Step {
+        due: Due {
+            words: &[")", ";"],
+            state: State::Body,
+        },
+        action: if holds { Action::Put(byte) } else { Action::Nothing },
+    })
+}
+
+/// Reads the name of a variable that is declared.
+fn next_at_variable(model: &Model, token: &[u8]) -> Option<Step>
+    ensures { option_map reading_of result ≡ declared (option_number model.now token.now) }
+{
+    let option = option_number(model, token)?;
+    Some(Step {
+        due: Due {
+            words: &[";"],
+            state: State::Declarations,
+        },
+        action: Action::Declare(option),
+    })
+}
+
 impl State {
     /// Reads the token at which this state is.
     fn next(self, model: &Model, known: &[Option<bool>], token: &[u8]) -> Option<Step>
@@ -145,36 +198,12 @@ impl State {
     {
         match self {
             State::Declarations => next_in_declarations(token),
-            State::Variable => Some(Step {
-                due: Due {
-                    words: &[";"],
-                    state: State::Declarations,
-                },
-                action: Action::Declare(option_number(model, token)?),
-            }),
+            State::Variable => next_at_variable(model, token),
             State::Body => next_in_body(token),
-            State::Operand(holds) => {
-                if token == b"!".as_slice() {
-                    return Some(Step::to(&[], State::Negated(holds)));
-                }
-                let value = known_value(model, known, token)?;
-                Some(Step::to(&[], State::AfterOperand(holds && value)))
-            }
-            State::Negated(holds) => {
-                let value = known_value(model, known, token)?;
-                Some(Step::to(&[], State::AfterOperand(holds && !value)))
-            }
+            State::Operand(holds) => next_at_operand(holds, model, known, token),
+            State::Negated(holds) => next_at_negated(holds, model, known, token),
             State::AfterOperand(holds) => next_behind_operand(holds, token),
-            State::Byte(holds) => {
-                let byte = byte_of(token)?;
-                Some(Step {
-                    due: Due {
-                        words: &[")", ";"],
-                        state: State::Body,
-                    },
-                    action: if holds { Action::Put(byte) } else { Action::Nothing },
-                })
-            }
+            State::Byte(holds) => next_at_byte(holds, token),
             State::End => None,
         }
     }
