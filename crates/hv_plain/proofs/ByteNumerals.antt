@@ -1,5 +1,5 @@
 -- The reader of a byte's numeral reads `decimal n` for n below 256, and nothing else.
-use Rattle.std.proofs.Common.{◌≡◌, ℕ, ◌<◌, ◌≤◌, ◌+◌, ◌-◌, ◌*◌, ◌/◌, ◌%◌, ◌^◌, Bool, true, false, cond, ◌&&◌, ltb, leb, List, [], ◌∷◌, ◌++◌, refl, sym, ap, ◌∙◌, arith, subst, Option, None, Some, ◌⊎◌, inl, inr, nat_le, nat_lt}
+use Rattle.std.proofs.Common.{◌≡◌, ℕ, ◌<◌, ◌≤◌, ◌+◌, ◌-◌, ◌*◌, ◌/◌, ◌%◌, ◌&&◌, List, [], ◌∷◌, ◌++◌, refl, sym, ap, ◌∙◌, arith, subst, Some, inl, inr, nat_le, nat_lt}
 use Rattle.std.specs.Fmt.{decimal}
 use Rattle.std.proofs.lemmas.Fmt.{decimal_digit, decimal_step}
 use Rattle.std.proofs.lemmas.Bool.Decides.{nat_tests, leb_tells}
@@ -45,10 +45,10 @@ byte_of-decimal n h =
       | inr more ↦ elim (leb_tells n 99) [
         | inl few ↦ let e : n / 10 * 10 + n % 10 ≡ n = omega arith in subst IsRead e (two_back (n / 10) (n % 10) (omega arith) (omega arith) (omega arith))
         | inr many ↦
-          let e : n / 100 * 100 + n % 100 / 10 * 10 + n % 10 ≡ n = omega arith in
-          subst IsRead e (three_back (n / 100) (n % 100 / 10) (n % 10) (omega arith) (omega arith) (omega arith) (omega arith) (omega arith))
-        ]
+            let e : n / 100 * 100 + n % 100 / 10 * 10 + n % 10 ≡ n = omega arith in
+            subst IsRead e (three_back (n / 100) (n % 100 / 10) (n % 10) (omega arith) (omega arith) (omega arith) (omega arith) (omega arith))
       ]
+    ]
 
 -- what is read is a numeral of a byte
 pub decimal-byte_of : (token : List ℕ) (n : ℕ) → byte_of token ≡ Some n → (n < 256) × (token ≡ decimal n)

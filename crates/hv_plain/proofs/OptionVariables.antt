@@ -1,13 +1,13 @@
 -- The variables of options, and what is known of them while a program is read.
-use Rattle.std.proofs.Common.{◌≡◌, ◌≢◌, ℕ, suc, zero, ◌<◌, ◌≤◌, ◌+◌, ◌==◌, Bool, true, false, cond, not, List, [], ◌∷◌, ◌++◌, map, length, get_or, take, drop, set, replicate, codes, refl, sym, ap, subst, ◌∙◌, arith, Option, None, Some, ◌⊎◌, inl, inr}
-use Rattle.std.specs.List.{position, position_or_len, Contains, slice_get}
+use Rattle.std.proofs.Common.{◌≡◌, ◌≢◌, ℕ, suc, zero, ◌<◌, ◌==◌, Bool, true, false, cond, not, List, [], ◌∷◌, ◌++◌, length, get_or, take, drop, set, replicate, codes, refl, sym, ap, subst, ◌∙◌, arith, Option, None, Some, ◌⊎◌, inl, inr}
+use Rattle.std.specs.List.{position, Contains, slice_get}
 use Rattle.std.specs.Str.{bytes_eq}
 use Rattle.std.proofs.lemmas.Slice.Eq.{bytes_eq-Decides}
 use Rattle.std.proofs.lemmas.List.{take-append-drop, get_or-set_same, get_or-set_other, get_or-map}
 use Rattle.std.proofs.lemmas.List.Quantifiers.{position-Some}
 use Rattle.std.proofs.lemmas.List.Elements.{Contains-append_left, Contains-append_right, Contains-append_cases}
-use Rattle.std.proofs.lemmas.Option.{cond_some, none-some, same_Some, slice_get-get_or}
-use Rattle.std.proofs.lemmas.Bool.Decides.{nat_tests, eqb_tells}
+use Rattle.std.proofs.lemmas.Option.{none-some, slice_get-get_or}
+use Rattle.std.proofs.lemmas.Bool.Decides.{eqb_tells}
 use Rattle.hv_plain.proofs.ListLemmas.{length-map}
 use Rattle.hv_plain.proofs.Places.{position-exists, cond_value, get_or-replicate_default, Contains-single}
 use Rattle.hv_plain.specs.Run.{start, variable_of, variables_of}
@@ -101,16 +101,16 @@ at_option-set_other known i j x o e h = rw e (get_or-set_other known i j x None 
 set_keeps : (known : List (Option Bool)) (i : ℕ) (x : Option Bool) (o : Option ℕ) (value : Bool) → at_option known o ≡ Some value → (o ≡ Some i → x ≡ Some value) → i < length known → at_option (set known i x) o ≡ Some value
 set_keeps known i x None value e f h = absurd (none-some value e)
 set_keeps known i x (Some j) value e f h = elim (eqb_tells j i) [
-    | inl t ↦ at_option-set_same known i x (Some j) (ap Some t.1) h ∙ f (ap Some t.1)
-    | inr t ↦ at_option-set_other known i j x (Some j) refl t.1 ∙ e
-    ]
+  | inl t ↦ at_option-set_same known i x (Some j) (ap Some t.1) h ∙ f (ap Some t.1)
+  | inr t ↦ at_option-set_other known i j x (Some j) refl t.1 ∙ e
+]
 
 set_gives : (known : List (Option Bool)) (i : ℕ) (x : Option Bool) (o : Option ℕ) (value : Bool) → at_option (set known i x) o ≡ Some value → (o ≡ Some i) ⊎ (at_option known o ≡ Some value)
 set_gives known i x None value e = absurd (none-some value e)
 set_gives known i x (Some j) value e = elim (eqb_tells j i) [
-    | inl t ↦ inl (ap Some t.1)
-    | inr t ↦ inr (sym (at_option-set_other known i j x (Some j) refl t.1) ∙ e)
-    ]
+  | inl t ↦ inl (ap Some t.1)
+  | inr t ↦ inr (sym (at_option-set_other known i j x (Some j) refl t.1) ∙ e)
+]
 
 pub Agrees-declare : (names : List (List ℕ)) (values : List Bool) (variables : List (List ℕ)) (known : List (Option Bool)) (v : List ℕ) (i : ℕ) → option_number names v ≡ Some i → length values ≡ length names → length known ≡ length names → Agrees names values variables known → Agrees names values (variables ++ v ∷ []) (set known i (slice_get values i))
 Agrees-declare names values variables known v i e l m a =
@@ -119,13 +119,13 @@ Agrees-declare names values variables known v i e l m a =
       complete = λ w h. elim (Contains-append_cases variables (v ∷ []) w h) [
         | inl g ↦ set_keeps known i (slice_get values i) (option_number names w) (is_true names values w) (a.complete w g) (λ number. is_true-option names values w i number l) (omega arith)
         | inr g ↦
-          let IsKnown : List ℕ → Type 0 = λ x. known_value names (set known i (slice_get values i)) x ≡ Some (is_true names values x) in
-          subst IsKnown (Contains-single v w g) (at_option-set_same known i (slice_get values i) (option_number names v) e (omega arith) ∙ is_true-option names values v i e l)
-        ];
+            let IsKnown : List ℕ → Type 0 = λ x. known_value names (set known i (slice_get values i)) x ≡ Some (is_true names values x) in
+            subst IsKnown (Contains-single v w g) (at_option-set_same known i (slice_get values i) (option_number names v) e (omega arith) ∙ is_true-option names values v i e l)
+      ];
       sound = λ w value h. elim (set_gives known i (slice_get values i) (option_number names w) value h) [
         | inl number ↦ Contains-append_right variables (v ∷ []) w (0, omega arith, option_number-same names v w i e number)
         | inr before ↦ Contains-append_left variables (v ∷ []) w (a.sound w value before)
-        ];
+      ];
     }
 
 -- a variable that is known has a number

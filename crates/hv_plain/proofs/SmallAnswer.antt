@@ -1,10 +1,10 @@
 -- What the reader answers, in the words of small programs.
-use Rattle.std.proofs.Common.{◌≡◌, ℕ, Bool, List, [], ◌∷◌, ◌++◌, length, refl, sym, ap, ◌∙◌, Option, None, Some}
+use Rattle.std.proofs.Common.{◌≡◌, ℕ, Bool, List, [], length, sym, ap, ◌∙◌, Option, None, Some}
 use Rattle.std.specs.List.{slice_split}
 use Rattle.std.specs.Option.{IfSome, IfNone}
 use Rattle.std.proofs.lemmas.Option.{none-some, same_Some}
 use Rattle.hv_plain.specs.Bytes.{is_gap}
-use Rattle.hv_plain.specs.Program.{Program, IsProgramText, program_tokens}
+use Rattle.hv_plain.specs.Program.{Program, IsProgramText}
 use Rattle.hv_plain.specs.Run.{IsOutputOf, output_of, run, start, variables_of}
 use Rattle.hv_plain.specs.SmallReader.{answer, run_from, start_due, unknown}
 use Rattle.hv_plain.proofs.SmallCompleteness.{program_read}

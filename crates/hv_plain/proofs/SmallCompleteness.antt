@@ -1,15 +1,13 @@
 -- The reader answers the output of each small program, when it reads its tokens.
-use Rattle.std.proofs.Common.{◌≡◌, ℕ, ◌<◌, ◌==◌, Bool, true, false, cond, not, ◌&&◌, List, [], ◌∷◌, ◌++◌, length, set, codes, refl, sym, ap, subst, ◌∙◌, arith, Option, None, Some, append_assoc, decimal}
+use Rattle.std.proofs.Common.{◌≡◌, ℕ, ◌<◌, ◌==◌, Bool, true, false, cond, not, ◌&&◌, List, [], ◌∷◌, ◌++◌, length, set, codes, refl, sym, ap, ◌∙◌, Option, None, Some, append_assoc, decimal}
 use Rattle.std.specs.List.{All, Contains, list_all, flat_map, slice_get}
-use Rattle.std.specs.Option.{option_and_then}
-use Rattle.std.specs.Str.{bytes_eq}
 use Rattle.std.proofs.Math.Bool.{and-true, and_assoc}
 use Rattle.std.proofs.lemmas.List.{append-nil, length-set, length-replicate}
 use Rattle.std.proofs.lemmas.List.Elements.{All-head, All-tail}
 use Rattle.hv_plain.specs.Program.{Literal, Statement, Program, IsTyped, IsTypedStatement, literal_tokens, test_tokens, call_tokens, guarded_tokens, statement_tokens, declaration_tokens, head_tokens, program_tokens}
 use Rattle.hv_plain.specs.Run.{literal_holds, output_of, start, variables_of}
-use Rattle.hv_plain.specs.SmallReader.{Wanted, Reading, wanted, run_from, next, known_after, output_after, known_value, option_number, behind_operand, behind_negated, behind_byte, declared, byte_of, start_due, unknown}
-use Rattle.hv_plain.specs.declared.small.reader.State.TheVariants.{Declarations, Variable, Body, Operand, Negated, AfterOperand, Byte, End}
+use Rattle.hv_plain.specs.SmallReader.{wanted, run_from, next, known_value, option_number, start_due, unknown}
+use Rattle.hv_plain.specs.declared.small.reader.State.TheVariants.{Declarations, Body, Operand, AfterOperand, Byte}
 use Rattle.hv_plain.proofs.ByteNumerals.{byte_of-decimal}
 use Rattle.hv_plain.proofs.OptionVariables.{Agrees, Agrees-start, Agrees-declare, is_true, known_value-number, variable-is_no_bang, option_number-given}
 
@@ -84,8 +82,8 @@ declarations_read names values variables known (v ∷ more) l m a h =
       known_then = rest.known_then;
       agrees = rw (← append_assoc variables (v ∷ []) more) rest.agrees;
       read = λ output tokens.
-        declaration_read names values known output v number.0 (flat_map declaration_tokens more ++ tokens) number.1
-        ∙ rest.read output tokens;
+          declaration_read names values known output v number.0 (flat_map declaration_tokens more ++ tokens) number.1
+          ∙ rest.read output tokens;
     }
 
 tokens_joined : (d h s e : List (List ℕ)) (last : List (List ℕ)) → (d ++ h ++ s ++ e) ++ last ≡ d ++ (h ++ (s ++ (e ++ last)))

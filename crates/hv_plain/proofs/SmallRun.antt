@@ -1,6 +1,5 @@
 -- A run of the reader, token by token.
-use Rattle.std.proofs.Common.{◌≡◌, ℕ, ◌<◌, ◌≤◌, ◌+◌, Bool, true, false, cond, not, ◌&&◌, List, [], ◌∷◌, codes, length, get_or, drop, refl, sym, ap, subst, ◌∙◌, arith, Option, None, Some}
-use Rattle.std.specs.List.{position}
+use Rattle.std.proofs.Common.{◌≡◌, ℕ, ◌<◌, ◌≤◌, ◌+◌, Bool, true, false, cond, List, [], ◌∷◌, codes, length, get_or, drop, refl, sym, ap, subst, ◌∙◌, Option, None, Some}
 use Rattle.std.specs.Option.{option_and_then, IfSome}
 use Rattle.std.specs.Str.{bytes_eq}
 use Rattle.std.proofs.lemmas.List.{at_drop_more, at_drop_all, length-set}
@@ -28,8 +27,8 @@ run_from-refuses names values due known output tokens n token seen s h e =
 pub run_from-goes : (names : List (List ℕ)) (values : List Bool) (due : Wanted) (known : List (Option Bool)) (output : List ℕ) (tokens : List (List ℕ)) (n : ℕ) (token : List ℕ) (seen : List (Option Bool)) (step : Reading) (known_then : List (Option Bool)) (output_then : List ℕ) (m : ℕ) → seen ≡ known → (n < length tokens) × (token ≡ get_or tokens n token) → Some step ≡ next names seen due token → known_then ≡ known_after values step.action known → output_then ≡ output_after step.action output → m ≡ n + 1 → run_from names values step.due known_then output_then (drop m tokens) ≡ run_from names values due known output (drop n tokens)
 run_from-goes names values due known output tokens n token seen step known_then output_then m s h e k o i =
     rw (k, o, i)
-      (ap (option_and_then (after names values known output (drop (n + 1) tokens))) (e ∙ ap (λ x. next names x due token) s)
-       ∙ sym (run_from-turn names values due known output tokens n token h))
+    (ap (option_and_then (after names values known output (drop (n + 1) tokens))) (e ∙ ap (λ x. next names x due token) s)
+    ∙ sym (run_from-turn names values due known output tokens n token h))
 
 pub run_from-ends : (names : List (List ℕ)) (values : List Bool) (due : Wanted) (known : List (Option Bool)) (output : List ℕ) (tokens : List (List ℕ)) (n : ℕ) (done : Bool) → length tokens ≤ n → done ≡ is_done due → run_from names values due known output (drop n tokens) ≡ cond done (Some output) None
 run_from-ends names values due known output tokens n done h e =
@@ -76,7 +75,7 @@ within-in names known Declarations token =
 within-in names known Variable token = within-declared names token (option_number names token) refl
 within-in names known Body token =
     within-cond (bytes_eq token (codes "putchar")) within-moved
-      (within-cond (bytes_eq token (codes "if")) within-moved (within-cond (bytes_eq token (codes "}")) within-moved within-none))
+    (within-cond (bytes_eq token (codes "if")) within-moved (within-cond (bytes_eq token (codes "}")) within-moved within-none))
 within-in names known (Operand holds) token =
     within-cond (bytes_eq token (codes "!")) within-moved (within-operand (length names) holds (known_value names known token))
 within-in names known (Negated holds) token = within-negated (length names) holds (known_value names known token)

@@ -1,5 +1,5 @@
 -- Where the reader answers an output, what it read is the tokens of a small program.
-use Rattle.std.proofs.Common.{◌≡◌, ℕ, ◌<◌, ◌==◌, Bool, true, false, cond, not, ◌&&◌, List, [], ◌∷◌, ◌++◌, length, set, codes, refl, sym, ap, subst, ◌∙◌, arith, Option, None, Some, append_assoc, decimal, ◌⊎◌, inl, inr}
+use Rattle.std.proofs.Common.{◌≡◌, ℕ, ◌<◌, Bool, true, false, cond, not, ◌&&◌, List, [], ◌∷◌, ◌++◌, length, set, codes, refl, sym, ap, ◌∙◌, arith, Option, None, Some, append_assoc, decimal, ◌⊎◌, inl, inr}
 use Rattle.std.specs.List.{All, Contains, flat_map, slice_get}
 use Rattle.std.specs.Option.{option_and_then}
 use Rattle.std.specs.Str.{bytes_eq}
@@ -8,9 +8,9 @@ use Rattle.std.proofs.lemmas.List.{append-nil, length-set, length-replicate}
 use Rattle.std.proofs.lemmas.List.Elements.{All-nil, All-cons}
 use Rattle.std.proofs.lemmas.Option.{cond_some, none-some}
 use Rattle.std.proofs.lemmas.Slice.Eq.{bytes_eq-Decides}
-use Rattle.hv_plain.specs.Program.{Literal, Statement, Program, IsTyped, IsTypedStatement, literal_tokens, test_tokens, call_tokens, guarded_tokens, statement_tokens, declaration_tokens, head_tokens, program_tokens}
+use Rattle.hv_plain.specs.Program.{Literal, Statement, Program, IsTyped, IsTypedStatement, literal_tokens, test_tokens, call_tokens, statement_tokens, declaration_tokens, head_tokens, program_tokens}
 use Rattle.hv_plain.specs.Run.{variables_of}
-use Rattle.hv_plain.specs.SmallReader.{Wanted, Reading, wanted, reading, moved, run_from, next, known_after, output_after, known_value, option_number, behind_operand, behind_negated, behind_byte, declared, byte_of, start_due, unknown, is_done, is_end, rest_of_head, next_in_body, next_in_declarations, next_behind_operand}
+use Rattle.hv_plain.specs.SmallReader.{Reading, wanted, reading, moved, run_from, next, known_after, output_after, known_value, option_number, behind_operand, behind_negated, behind_byte, declared, byte_of, start_due, unknown, is_done, rest_of_head}
 use Rattle.hv_plain.specs.declared.small.reader.State.{State}
 use Rattle.hv_plain.specs.declared.small.reader.State.TheVariants.{Declarations, Variable, Body, Operand, Negated, AfterOperand, Byte, End}
 use Rattle.hv_plain.specs.declared.small.reader.Action.TheVariants.{Nothing, Declare, Put}
@@ -257,20 +257,20 @@ end_due given variables (word ∷ words) state e = absurd (grind (arith, nat_tes
 sound : (names : List (List ℕ)) (values : List Bool) (variables : List (List ℕ)) (known : List (Option Bool)) (output : List ℕ) (words : List (List ℕ)) (state : State) (tokens : Tokens) (o : List ℕ) → length values ≡ length names → length known ≡ length names → Agrees names values variables known → run_from names values (wanted words state) known output tokens ≡ Some o → IsDue (variables_of names) variables words state tokens
 sound names values variables known output words state [] o l m a e = end_due (variables_of names) variables words state ((cond_some (is_done (wanted words state)) output o e).0)
 sound names values variables known output (word ∷ words) state (token ∷ tokens) o l m a e = elim (taken (after names values known output tokens) (bytes_eq token word) (reading words state Nothing) None o e) [
-    | inl p ↦
+  | inl p ↦
       let due = sound names values variables known output words state tokens o l m a p.1 in
       let text = same_text token word p.0 in
       let q = due.are in
       record { rest = due.rest; are = cc; follow = due.follow }
-    | inr p ↦ absurd (none-some o p)
-    ]
+  | inr p ↦ absurd (none-some o p)
+]
 sound names values variables known output [] Declarations (token ∷ tokens) o l m a e = elim (taken (after names values known output tokens) (bytes_eq token (codes "extern")) (reading (codes "int" ∷ []) Variable Nothing) (cond (bytes_eq token (codes "int")) (moved rest_of_head Body) None) o e) [
-    | inl p ↦ record { rest = token ∷ tokens; are = refl; follow = heads_more (variables_of names) variables token tokens (same_text token (codes "extern") p.0) (sound names values variables known output (codes "int" ∷ []) Variable tokens o l m a p.1) }
-    | inr f ↦ elim (taken (after names values known output tokens) (bytes_eq token (codes "int")) (reading rest_of_head Body Nothing) None o f) [
-      | inl p ↦ record { rest = token ∷ tokens; are = refl; follow = heads_end (variables_of names) variables token tokens (same_text token (codes "int") p.0) (sound names values variables known output rest_of_head Body tokens o l m a p.1) }
-      | inr p ↦ absurd (none-some o p)
-      ]
-    ]
+  | inl p ↦ record { rest = token ∷ tokens; are = refl; follow = heads_more (variables_of names) variables token tokens (same_text token (codes "extern") p.0) (sound names values variables known output (codes "int" ∷ []) Variable tokens o l m a p.1) }
+  | inr f ↦ elim (taken (after names values known output tokens) (bytes_eq token (codes "int")) (reading rest_of_head Body Nothing) None o f) [
+    | inl p ↦ record { rest = token ∷ tokens; are = refl; follow = heads_end (variables_of names) variables token tokens (same_text token (codes "int") p.0) (sound names values variables known output rest_of_head Body tokens o l m a p.1) }
+    | inr p ↦ absurd (none-some o p)
+  ]
+]
 sound names values variables known output [] Variable (token ∷ tokens) o l m a e =
     let p = declared_some (after names values known output tokens) (option_number names token) o e in
     let next_known : List (Option Bool) = set known p.0 (slice_get values p.0) in
@@ -284,18 +284,18 @@ sound names values variables known output [] Variable (token ∷ tokens) o l m a
     } in
     record { rest = token ∷ tokens; are = refl; follow = new }
 sound names values variables known output [] Body (token ∷ tokens) o l m a e = elim (taken (after names values known output tokens) (bytes_eq token (codes "putchar")) (reading (codes "(" ∷ []) (Byte true) Nothing) (cond (bytes_eq token (codes "if")) (moved (codes "(" ∷ []) (Operand true)) (cond (bytes_eq token (codes "}")) (moved ([] ∷ []) End) None)) o e) [
-    | inl p ↦ record { rest = token ∷ tokens; are = refl; follow = call_more variables (variables_of names) token tokens true (same_text token (codes "putchar") p.0) (sound names values variables known output (codes "(" ∷ []) (Byte true) tokens o l m a p.1) }
-    | inr f ↦ elim (taken (after names values known output tokens) (bytes_eq token (codes "if")) (reading (codes "(" ∷ []) (Operand true) Nothing) (cond (bytes_eq token (codes "}")) (moved ([] ∷ []) End) None) o f) [
-      | inl p ↦ record { rest = token ∷ tokens; are = refl; follow = if_more variables (variables_of names) token tokens true (same_text token (codes "if") p.0) (sound names values variables known output (codes "(" ∷ []) (Operand true) tokens o l m a p.1) }
-      | inr g ↦ elim (taken (after names values known output tokens) (bytes_eq token (codes "}")) (reading ([] ∷ []) End Nothing) None o g) [
-        | inl p ↦ record { rest = token ∷ tokens; are = refl; follow = body_end variables (variables_of names) token tokens (same_text token (codes "}") p.0) (sound names values variables known output ([] ∷ []) End tokens o l m a p.1) }
-        | inr p ↦ absurd (none-some o p)
-        ]
-      ]
+  | inl p ↦ record { rest = token ∷ tokens; are = refl; follow = call_more variables (variables_of names) token tokens true (same_text token (codes "putchar") p.0) (sound names values variables known output (codes "(" ∷ []) (Byte true) tokens o l m a p.1) }
+  | inr f ↦ elim (taken (after names values known output tokens) (bytes_eq token (codes "if")) (reading (codes "(" ∷ []) (Operand true) Nothing) (cond (bytes_eq token (codes "}")) (moved ([] ∷ []) End) None) o f) [
+    | inl p ↦ record { rest = token ∷ tokens; are = refl; follow = if_more variables (variables_of names) token tokens true (same_text token (codes "if") p.0) (sound names values variables known output (codes "(" ∷ []) (Operand true) tokens o l m a p.1) }
+    | inr g ↦ elim (taken (after names values known output tokens) (bytes_eq token (codes "}")) (reading ([] ∷ []) End Nothing) None o g) [
+      | inl p ↦ record { rest = token ∷ tokens; are = refl; follow = body_end variables (variables_of names) token tokens (same_text token (codes "}") p.0) (sound names values variables known output ([] ∷ []) End tokens o l m a p.1) }
+      | inr p ↦ absurd (none-some o p)
     ]
+  ]
+]
 sound names values variables known output [] (Operand holds) (token ∷ tokens) o l m a e = elim (taken (after names values known output tokens) (bytes_eq token (codes "!")) (reading [] (Negated holds) Nothing) (behind_operand holds (known_value names known token)) o e) [
-    | inl p ↦ record { rest = token ∷ tokens; are = refl; follow = negated_test variables (variables_of names) token tokens holds (same_text token (codes "!") p.0) (sound names values variables known output [] (Negated holds) tokens o l m a p.1) }
-    | inr f ↦
+  | inl p ↦ record { rest = token ∷ tokens; are = refl; follow = negated_test variables (variables_of names) token tokens holds (same_text token (codes "!") p.0) (sound names values variables known output [] (Negated holds) tokens o l m a p.1) }
+  | inr f ↦
       let p = operand_some (after names values known output tokens) holds (known_value names known token) o f in
       let due = sound names values variables known output [] (AfterOperand (holds && p.0)) tokens o l m a p.2 in
       let test : Test variables (token ∷ tokens) = record {
@@ -306,7 +306,7 @@ sound names values variables known output [] (Operand holds) (token ∷ tokens) 
         follow = due.follow;
       } in
       record { rest = token ∷ tokens; are = refl; follow = test }
-    ]
+]
 sound names values variables known output [] (Negated holds) (token ∷ tokens) o l m a e =
     let p = negated_some (after names values known output tokens) holds (known_value names known token) o e in
     let due = sound names values variables known output [] (AfterOperand (holds && not p.0)) tokens o l m a p.2 in
@@ -319,12 +319,12 @@ sound names values variables known output [] (Negated holds) (token ∷ tokens) 
     } in
     record { rest = token ∷ tokens; are = refl; follow = test }
 sound names values variables known output [] (AfterOperand holds) (token ∷ tokens) o l m a e = elim (taken (after names values known output tokens) (bytes_eq token (codes "&&")) (reading [] (Operand holds) Nothing) (cond (bytes_eq token (codes ")")) (moved (codes "putchar" ∷ codes "(" ∷ []) (Byte holds)) None) o e) [
-    | inl p ↦ record { rest = token ∷ tokens; are = refl; follow = literals_more variables (variables_of names) token tokens holds (same_text token (codes "&&") p.0) (sound names values variables known output [] (Operand holds) tokens o l m a p.1) }
-    | inr f ↦ elim (taken (after names values known output tokens) (bytes_eq token (codes ")")) (reading (codes "putchar" ∷ codes "(" ∷ []) (Byte holds) Nothing) None o f) [
-      | inl p ↦ record { rest = token ∷ tokens; are = refl; follow = literals_end variables (variables_of names) token tokens holds (same_text token (codes ")") p.0) (sound names values variables known output (codes "putchar" ∷ codes "(" ∷ []) (Byte holds) tokens o l m a p.1) }
-      | inr p ↦ absurd (none-some o p)
-      ]
-    ]
+  | inl p ↦ record { rest = token ∷ tokens; are = refl; follow = literals_more variables (variables_of names) token tokens holds (same_text token (codes "&&") p.0) (sound names values variables known output [] (Operand holds) tokens o l m a p.1) }
+  | inr f ↦ elim (taken (after names values known output tokens) (bytes_eq token (codes ")")) (reading (codes "putchar" ∷ codes "(" ∷ []) (Byte holds) Nothing) None o f) [
+    | inl p ↦ record { rest = token ∷ tokens; are = refl; follow = literals_end variables (variables_of names) token tokens holds (same_text token (codes ")") p.0) (sound names values variables known output (codes "putchar" ∷ codes "(" ∷ []) (Byte holds) tokens o l m a p.1) }
+    | inr p ↦ absurd (none-some o p)
+  ]
+]
 sound names values variables known output [] (Byte holds) (token ∷ tokens) o l m a e =
     let p = byte_some (after names values known output tokens) holds (byte_of token) o e in
     let same : known_after values (cond holds (Put p.0) Nothing) known ≡ known = known_after-byte values holds p.0 known in

@@ -2,9 +2,9 @@
 -- rests on it: `small_run` says what its answer is in the words of Program and Run alone.
 use Rattle.std.specs.Prelude.{ℕ, ◌<◌, ◌-◌, ◌+◌, ◌*◌, ◌==◌, Bool, true, false, cond, not, ◌&&◌, nat_le, nat_lt, List, [], ◌∷◌, ◌++◌, map, length, take, drop, codes, replicate, position, slice_set, slice_get, slice_index_or, Option, None, Some}
 use Rattle.std.specs.List.{slice_split}
-use Rattle.std.specs.Option.{option_map, option_and_then}
+use Rattle.std.specs.Option.{option_and_then}
 use Rattle.std.specs.Str.{bytes_eq}
-use Rattle.hv_plain.specs.Bytes.{is_gap, is_empty}
+use Rattle.hv_plain.specs.Bytes.{is_gap}
 use Rattle.hv_plain.specs.Name.{is_digit}
 use Rattle.hv_plain.specs.declared.small.reader.Due.{Due}
 use Rattle.hv_plain.specs.declared.small.reader.Step.{Step}
@@ -63,13 +63,13 @@ byte_of (a ∷ []) = cond (is_digit a) (Some (a - 48)) None
 byte_of (a ∷ b ∷ []) = cond (nat_le 49 a && nat_le a 57 && is_digit b) (Some ((a - 48) * 10 + (b - 48))) None
 byte_of (a ∷ b ∷ c ∷ []) =
     cond (nat_le 49 a && nat_le a 57 && is_digit b && is_digit c && nat_lt ((a - 48) * 100 + (b - 48) * 10 + (c - 48)) 256)
-      (Some ((a - 48) * 100 + (b - 48) * 10 + (c - 48))) None
+    (Some ((a - 48) * 100 + (b - 48) * 10 + (c - 48))) None
 byte_of (_ ∷ _ ∷ _ ∷ _ ∷ _) = None
 
 abbrev pub next_in_declarations : List ℕ → Option Reading
 next_in_declarations token =
     cond (bytes_eq token (codes "extern")) (moved (codes "int" ∷ []) Variable)
-      (cond (bytes_eq token (codes "int")) (moved rest_of_head Body) None)
+    (cond (bytes_eq token (codes "int")) (moved rest_of_head Body) None)
 
 abbrev pub declared : Option ℕ → Option Reading
 declared None = None
@@ -78,8 +78,8 @@ declared (Some i) = Some (reading (codes ";" ∷ []) Declarations (Declare i))
 abbrev pub next_in_body : List ℕ → Option Reading
 next_in_body token =
     cond (bytes_eq token (codes "putchar")) (moved (codes "(" ∷ []) (Byte true))
-      (cond (bytes_eq token (codes "if")) (moved (codes "(" ∷ []) (Operand true))
-      (cond (bytes_eq token (codes "}")) (moved ([] ∷ []) End) None))
+    (cond (bytes_eq token (codes "if")) (moved (codes "(" ∷ []) (Operand true))
+    (cond (bytes_eq token (codes "}")) (moved ([] ∷ []) End) None))
 
 abbrev pub behind_operand : Bool → Option Bool → Option Reading
 behind_operand holds None = None
@@ -95,7 +95,7 @@ next_at_operand holds value token = cond (bytes_eq token (codes "!")) (moved [] 
 abbrev pub next_behind_operand : Bool → List ℕ → Option Reading
 next_behind_operand holds token =
     cond (bytes_eq token (codes "&&")) (moved [] (Operand holds))
-      (cond (bytes_eq token (codes ")")) (moved (codes "putchar" ∷ codes "(" ∷ []) (Byte holds)) None)
+    (cond (bytes_eq token (codes ")")) (moved (codes "putchar" ∷ codes "(" ∷ []) (Byte holds)) None)
 
 abbrev pub behind_byte : Bool → Option ℕ → Option Reading
 behind_byte holds None = None
@@ -152,7 +152,7 @@ abbrev pub run_from : List (List ℕ) → List Bool → Wanted → List (Option 
 run_from names values due known output [] = cond (is_done due) (Some output) None
 run_from names values due known output (token ∷ tokens) =
     option_and_then (λ step. run_from names values step.due (known_after values step.action known) (output_after step.action output) tokens)
-      (next names known due token)
+    (next names known due token)
 
 abbrev pub start_due : Wanted
 start_due = wanted [] Declarations

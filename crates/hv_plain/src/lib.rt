@@ -8,6 +8,9 @@ mod small;
 pub use model::{Model, ModelFault, ModelKind, ModelRefusal, is_valid, read_model};
 pub use small::small_run;
 
+#[cfg(test)]
+mod tests;
+
 /// The words that name no option: the keywords, and the names that preprocessing keeps for itself
 /// (ISO/IEC 9899:1999, 6.4.1, 6.10.8).
 pub const RESERVED: [&str; 48] = [

@@ -10,7 +10,12 @@ use std::alloc::Global;
 
 /// The output of the small program that `text` is, its option variables set by `config`. `None` says
 /// that the text is no small program.
-pub fn small_run(alloc: Global, text: &[u8], model: &Model, config: &Config) -> Result<Option<Text>, Memory>
+pub fn small_run(
+    alloc: Global,
+    text: &[u8],
+    model: &Model,
+    config: &Config,
+) -> Result<Option<Text>, Memory>
     requires { length config.now.on ≡ length model.now }
     ensures runs { IfOk result (λ answer. IfSome answer (IsOutputOf model.now config.now.on text.now)) }
     ensures only { IfOk result (λ answer. IfSome answer (λ output.

@@ -9,7 +9,9 @@ use hv_base::{Config, Memory, Text};
 use std::alloc::Global;
 
 /// The tokens from the declaration of `putchar` to the brace that opens `main`, but for the first.
-const REST_OF_HEAD: [&str; 11] = ["putchar", "(", "int", ")", ";", "int", "main", "(", "void", ")", "{"];
+const REST_OF_HEAD: [&str; 11] = [
+    "putchar", "(", "int", ")", ";", "int", "main", "(", "void", ")", "{",
+];
 
 /// Where a small program goes on. A `bool` says whether the literals of the test that have been read
 /// all hold.
@@ -98,8 +100,14 @@ fn byte_of(token: &[u8]) -> Option<u8>
     match token {
         [ones @ b'0'..=b'9'] => Some(ones - b'0'),
         [tens @ b'1'..=b'9', ones @ b'0'..=b'9'] => Some((tens - b'0') * 10 + (ones - b'0')),
-        [hundreds @ b'1'..=b'9', tens @ b'0'..=b'9', ones @ b'0'..=b'9'] => {
-            let n = u16::from(hundreds - b'0') * 100 + u16::from(tens - b'0') * 10 + u16::from(ones - b'0');
+        [
+            hundreds @ b'1'..=b'9',
+            tens @ b'0'..=b'9',
+            ones @ b'0'..=b'9',
+        ] => {
+            let n = u16::from(hundreds - b'0') * 100
+                + u16::from(tens - b'0') * 10
+                + u16::from(ones - b'0');
             u8::try_from(n).ok()
         }
         _ => None,
@@ -124,6 +132,7 @@ fn next_in_body(token: &[u8]) -> Option<Step>
     match token {
         b"putchar" => Some(Step::to(&["("], State::Byte(true))),
         b"if" => Some(Step::to(&["("], State::Operand(true))),
+        // The gap behind the last token ends in an empty part of the text.
         b"}" => Some(Step::to(&[""], State::End)),
         _ => None,
     }
@@ -172,7 +181,11 @@ fn next_at_byte(holds: bool, token: &[u8]) -> Option<Step>
             words: &[")", ";"],
             state: State::Body,
         },
-        action: if holds { Action::Put(byte) } else { Action::Nothing },
+        action: if holds {
+            Action::Put(byte)
+        } else {
+            Action::Nothing
+        },
     })
 }
 
@@ -218,7 +231,11 @@ impl Due {
         match self.words {
             [] => self.state.next(model, known, token),
             [word, words @ ..] => {
-                if token == word.as_bytes() { Some(Step::to(words, self.state)) } else { None }
+                if token == word.as_bytes() {
+                    Some(Step::to(words, self.state))
+                } else {
+                    None
+                }
             }
         }
     }
@@ -233,7 +250,12 @@ impl Due {
 
 /// Does what is to be done at a token: `known` has the values of the variables declared so far, by
 /// the numbers of their options.
-fn perform(action: Action, config: &Config, known: &mut Vec<Option<bool>>, output: &mut Text) -> Result<(), Memory>
+fn perform(
+    action: Action,
+    config: &Config,
+    known: &mut Vec<Option<bool>>,
+    output: &mut Text,
+) -> Result<(), Memory>
     requires { IsWithin (length known.old.items) action }
     ensures known { known.new.items ≡ known_after config.now.on action known.old.items }
     ensures output { OnOk result (output.new ≡ output_after action output.old) }
@@ -249,7 +271,12 @@ fn perform(action: Action, config: &Config, known: &mut Vec<Option<bool>>, outpu
 }
 
 /// The output of the small program that `text` is, or `None` where it is none.
-pub fn read(alloc: Global, text: &[u8], model: &Model, config: &Config) -> Result<Option<Text>, Memory>
+pub fn read(
+    alloc: Global,
+    text: &[u8],
+    model: &Model,
+    config: &Config,
+) -> Result<Option<Text>, Memory>
     ensures { IfOk result (λ output. output ≡ answer model.now config.now.on text.now) }
 {
     let mut known = vec![in alloc; None; model.options()]?;
@@ -267,5 +294,9 @@ pub fn read(alloc: Global, text: &[u8], model: &Model, config: &Config) -> Resul
             None => return Ok(None),
         }
     }
-    if due.is_done() { Ok(Some(output)) } else { Ok(None) }
+    if due.is_done() {
+        Ok(Some(output))
+    } else {
+        Ok(None)
+    }
 }

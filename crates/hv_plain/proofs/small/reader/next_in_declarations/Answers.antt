@@ -1,4 +1,4 @@
-use Rattle.std.proofs.Common.{◌≡◌, ap, arith, rules, codes, List, ℕ, Some}
+use Rattle.std.proofs.Common.{◌≡◌, ap, arith, rules, codes, Some}
 use Rattle.std.proofs.lemmas.Slice.Eq.{text_from_reads}
 use Rattle.hv_plain.proofs.small.reader.next_in_declarations.Goals as goal
 

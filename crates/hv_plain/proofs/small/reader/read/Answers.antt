@@ -1,4 +1,4 @@
-use Rattle.std.proofs.Common.{◌≡◌, ℕ, List, length, ap, sym, refl, subst, ◌∙◌, arith, rules, tests, Option, None, Some}
+use Rattle.std.proofs.Common.{length, ap, sym, ◌∙◌, arith, rules, tests}
 use Rattle.std.specs.List.{slice_split}
 use Rattle.std.proofs.lemmas.Iterator.Consumers.{YieldsList-turn, YieldsList-end}
 use Rattle.std.proofs.lemmas.Iterator.Splits.{YieldsList-from_slice_split}
@@ -24,8 +24,8 @@ loop-token-preserved c =
     record {
       each_option = ap length c.perform.ensures.known ∙ length-known_after c.args.config.now.on c.in-Some-next.step.action c.loop-token.known.items ∙ c.loop-token.invariant.each_option;
       same_answer =
-        run_from-goes c.args.model.now c.args.config.now.on (wanted_of c.loop-token.due) c.loop-token.known.items c.loop-token.output (slice_split is_gap c.args.text.now) (length c.loop-token.yielded) c.in-Some.token.now c.as_slice.result.now (reading_of c.in-Some-next.step) c.perform.new.known.items c.perform.new.output _ c.as_slice.ensures.value t c.in-Some-next.ensures c.perform.ensures.known c.in_ok-perform-in-Some-next.ensures.output (length_push c.loop-token.yielded c.in-Some.token)
-        ∙ c.loop-token.invariant.same_answer;
+          run_from-goes c.args.model.now c.args.config.now.on (wanted_of c.loop-token.due) c.loop-token.known.items c.loop-token.output (slice_split is_gap c.args.text.now) (length c.loop-token.yielded) c.in-Some.token.now c.as_slice.result.now (reading_of c.in-Some-next.step) c.perform.new.known.items c.perform.new.output _ c.as_slice.ensures.value t c.in-Some-next.ensures c.perform.ensures.known c.in_ok-perform-in-Some-next.ensures.output (length_push c.loop-token.yielded c.in-Some.token)
+          ∙ c.loop-token.invariant.same_answer;
     }
 
 pub returns-then-is_done : goal.returns-then-is_done
