@@ -82,7 +82,9 @@ impl Model {
     pub fn position(&self, name: &[u8]) -> Option<usize>
         ensures { result ≡ position (bytes_eq name.now) self.now }
     {
-        self.names.iter().position(|option| name == option.as_bytes())
+        self.names
+            .iter()
+            .position(|option| name == option.as_bytes())
     }
 }
 
