@@ -6,4 +6,5 @@ pub mod ModelKind
 pub mod Name
 pub mod Program
 pub mod Run
+pub mod SmallReader
 pub mod Source

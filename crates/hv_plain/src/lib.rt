@@ -20,3 +20,6 @@ pub const RESERVED: [&str; 48] = [
     "__STDC_HOSTED__", "__STDC_VERSION__", "__FILE__", "__LINE__", "__DATE__", "__TIME__", "_Pragma",
     "__func__",
 ];
+
+#[cfg(test)]
+mod tests;

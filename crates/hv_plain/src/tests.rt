@@ -1,0 +1,85 @@
+use super::*;
+use hv_base::{Config, List};
+use std::test::Fail;
+
+#[test]
+fn small_programs_put_their_bytes(rt: HostRuntime) -> Result<(), Fail> {
+    let table = [
+        ("int putchar ( int ) ;\nint main ( void ) {\n}\n", Some("")),
+        (
+            "int putchar ( int ) ;\nint main ( void ) {\nputchar ( 120 ) ;\nputchar ( 10 ) ;\n}\n",
+            Some("x\n"),
+        ),
+        (
+            "int\tputchar\n(\nint ) ; int main ( void ) { putchar ( 0 ) ; putchar ( 7 ) ;\t}\t",
+            Some("\0\x07"),
+        ),
+        ("", None),
+        ("\n", None),
+        (" int putchar ( int ) ;\nint main ( void ) {\n}\n", None),
+        ("int  putchar ( int ) ;\nint main ( void ) {\n}\n", None),
+        ("int putchar ( int ) ;\nint main ( void ) {\n}", None),
+        (
+            "int putchar ( int ) ;\nint main ( void ) {\nputchar ( 120 ) ;\n",
+            None,
+        ),
+        ("int putchar ( int ) ;\nint main ( void ) {\n}\n}\n", None),
+        (
+            "int putchar ( int ) ;\nint main ( void ) {\nputchar( 120 ) ;\n}\n",
+            None,
+        ),
+        (
+            "int putchar ( int ) ;\nint main ( void ) {\nputchar ( 256 ) ;\n}\n",
+            None,
+        ),
+        (
+            "int putchar ( int ) ;\nint main ( void ) {\nputchar ( 01 ) ;\n}\n",
+            None,
+        ),
+        (
+            "int putchar ( int ) ;\nint main ( void ) {\nputchar ( ) ;\n}\n",
+            None,
+        ),
+        (
+            "int putchar ( int ) ;\nint main ( void ) {\nif ( hv_opt_A ) putchar ( 120 ) ;\n}\n",
+            None,
+        ),
+        (
+            "int putchar ( int ) ;\nint main ( void ) {\nif ( ) putchar ( 120 ) ;\n}\n",
+            None,
+        ),
+        (
+            "extern int hv_opt_A ;\nint putchar ( int ) ;\nint main ( void ) {\n}\n",
+            None,
+        ),
+    ];
+    let model = Model::new(rt.alloc());
+    let config = Config {
+        on: List::new(rt.alloc()),
+    };
+    for (text, output) in table {
+        let answer = small_run(rt.alloc(), text.as_bytes(), &model, &config)?;
+        assert_eq!(rt;
+            answer.as_ref().map(|bytes| bytes.as_slice()),
+            output.map(|bytes| bytes.as_bytes()),
+            "at {text:?}"
+        );
+    }
+    Ok(())
+}
+
+#[test]
+fn small_programs_put_bytes_that_are_no_text(rt: HostRuntime) -> Result<(), Fail> {
+    let model = Model::new(rt.alloc());
+    let config = Config {
+        on: List::new(rt.alloc()),
+    };
+    let text =
+        b"int putchar ( int ) ;\nint main ( void ) {\nputchar ( 255 ) ;\nputchar ( 10 ) ;\nputchar ( 99 ) ;\nputchar ( 100 ) ;\n}\n";
+    let answer = small_run(rt.alloc(), text, &model, &config)?;
+    assert_eq!(rt;
+        answer.as_ref().map(|bytes| bytes.as_slice()),
+        Some([255, 10, 99, 100].as_slice())
+    );
+    Ok(())
+}
