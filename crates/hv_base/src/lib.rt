@@ -1,17 +1,21 @@
-//! What every crate of Hercules speaks of: lists, texts, places in sources, configurations and the
-//! causes of refusals.
+//! What every crate of Hercules speaks of: lists, texts, places in sources, tokens of C, configurations
+//! and the causes of refusals.
 #![tactic(auto)]
 
 mod config;
 mod list;
 mod memory;
 mod place;
+mod span;
+mod token;
 mod why;
 
 pub use config::Config;
 pub use list::{List, Text};
 pub use memory::Memory;
 pub use place::Place;
+pub use span::{Span, Start};
+pub use token::{CTok, IntType, Keyword, Punct};
 pub use why::Why;
 
 #[cfg(test)]
