@@ -1,0 +1,137 @@
+-- How a source file is cut into preprocessing tokens, translation phase 3 (5.1.1.2, 6.4): from the left,
+-- white space and comments, or else the longest token.
+use Rattle.std.specs.Prelude.{ℕ, zero, suc, ◌+◌, ◌-◌, ◌≡◌, Bool, true, false, cond, not, ◌&&◌, ◌||◌, ◌==◌, nat_le, nat_lt, nat_eq, List, [], ◌∷◌, codes, take, drop, length, slice_index}
+use Rattle.std.specs.List.{starts_with}
+use Rattle.std.specs.Str.{bytes_eq}
+use Rattle.hv_base.specs.declared.span.Span.{Span}
+use Rattle.hv_toks.specs.declared.front.Front.{Front}
+use Rattle.hv_toks.specs.declared.front.Front.TheVariants.{End, WhiteSpace, Newline, Comment, OpenComment, Token}
+use Rattle.hv_toks.specs.declared.front.Line.{Line}
+use Rattle.hv_toks.specs.declared.front.Line.TheVariants.{Start, Hash, Include, Rest}
+use Rattle.hv_toks.specs.declared.front.Match.{Match}
+use Rattle.hv_toks.specs.declared.token.PpKind.{PpKind}
+use Rattle.hv_toks.specs.declared.token.PpKind.TheVariants.{Identifier, Number, CharConstant, StringLiteral, HeaderName, Punctuator, Other}
+use Rattle.hv_toks.specs.declared.token.PpTok.{PpTok}
+use Rattle.hv_toks.specs.Lexical.{longest, is_identifier, is_number, is_char_constant, is_string_literal, is_header_name, is_punctuator}
+use Rattle.hv_toks.specs.Splices.{spliced, offsets}
+
+-- white space that is no newline: space, horizontal and vertical tab, form feed, carriage return
+abbrev pub is_white : ℕ → Bool
+is_white byte = byte == 32 || byte == 9 || byte == 11 || byte == 12 || byte == 13
+
+-- whether a line ends here: a newline, before which a carriage return may stand
+abbrev pub ends_line : List ℕ → Bool
+ends_line text = starts_with nat_eq text (10 ∷ []) || starts_with nat_eq text (13 ∷ 10 ∷ [])
+
+-- how many bytes there are to the end of the line
+abbrev pub line_len : List ℕ → ℕ
+line_len [] = 0
+line_len (byte ∷ bytes) = cond (ends_line (byte ∷ bytes)) 0 (1 + line_len bytes)
+
+-- how many bytes there are up to and with the first `*/`; 0 where there is none
+abbrev pub closing_len : List ℕ → ℕ
+closing_len [] = 0
+closing_len (byte ∷ bytes) = cond (starts_with nat_eq (byte ∷ bytes) (codes "*/")) 2 (elim (closing_len bytes) [ zero ↦ 0 | suc n ↦ suc (suc n) ])
+
+-- a comment that begins with `/*` (6.4.9)
+abbrev pub block_comment : List ℕ → Front
+block_comment text = elim (closing_len (drop 2 text)) [ zero ↦ OpenComment | suc n ↦ Comment (2 + suc n) ]
+
+abbrev pub found : PpKind → ℕ → Match
+found kind len = record { kind = kind; len = len }
+
+-- the longer one, or the first of two that are equally long
+abbrev pub longer : Match → Match → Match
+longer a b = cond (nat_lt a.len b.len) b a
+
+-- the longest token, whatever stands before it; its length is 0 where there is none
+abbrev pub longest_token : List ℕ → Match
+longest_token text =
+    longer (found Identifier (longest is_identifier text)) (longer (found Number (longest is_number text))
+    (longer (found CharConstant (longest is_char_constant text)) (longer (found StringLiteral (longest is_string_literal text))
+    (found Punctuator (longest is_punctuator text)))))
+
+-- a quote that is not closed on its line goes with all the line, and another byte alone
+abbrev pub other : List ℕ → Match
+other [] = found Other 0
+other (byte ∷ bytes) = found Other (cond (byte == 39 || byte == 34) (1 + line_len bytes) 1)
+
+abbrev pub is_include : Line → Bool
+is_include Start = false
+is_include Hash = false
+is_include Include = true
+is_include Rest = false
+
+-- the token at the front of a text. Behind `#` and `include`, what could be a header name is one (6.4)
+abbrev pub token_at : Line → List ℕ → Match
+token_at line text =
+    cond (is_include line && nat_lt 0 (longest is_header_name text)) (found HeaderName (longest is_header_name text))
+    (cond (nat_lt 0 (longest_token text).len) (longest_token text) (other text))
+
+-- what a text begins with
+abbrev pub front : Line → List ℕ → Front
+front line [] = End
+front line (byte ∷ bytes) =
+    cond (byte == 10) Newline
+    (cond (is_white byte) WhiteSpace
+    (cond (starts_with nat_eq (byte ∷ bytes) (codes "//")) (Comment (line_len (byte ∷ bytes)))
+    (cond (starts_with nat_eq (byte ∷ bytes) (codes "/*")) (block_comment (byte ∷ bytes))
+    (Token (token_at line (byte ∷ bytes))))))
+
+-- what stands on the line behind a token of this spelling
+abbrev pub behind : Line → List ℕ → Line
+behind Start token = cond (bytes_eq token (codes "#")) Hash Rest
+behind Hash token = cond (bytes_eq token (codes "include")) Include Rest
+behind Include token = Rest
+behind Rest token = Rest
+
+abbrev pub is_start : Line → Bool
+is_start Start = true
+is_start Hash = false
+is_start Include = false
+is_start Rest = false
+
+-- the token of a file whose spelling this is, and whose bytes have these offsets
+abbrev pub token : ℕ → Line → Bool → PpKind → List ℕ → List ℕ → PpTok
+token file line space kind text places = record {
+  kind = kind;
+  span = record { file = file; start = slice_index places 0; end = slice_index places (length places - 1) + 1 };
+  text = text;
+  space = space;
+  first = is_start line;
+}
+
+-- what cutting gives: the tokens, or the offset of a comment that is not closed
+pub data Cutting : Type 0 where
+  tokens : List PpTok → Cutting
+  open_comment : ℕ → Cutting
+
+-- the same, with a token in front
+abbrev pub prepend : PpTok → Cutting → Cutting
+prepend tok (tokens toks) = tokens (tok ∷ toks)
+prepend tok (open_comment offset) = open_comment offset
+
+-- the cutting of what is left of a file behind the splicing of lines, where `places` are the offsets of its
+-- bytes, `line` is what stands on the line before it, and `space` says whether white space does. A comment
+-- is white space, and no line ends within it
+pub data Cuts (file : ℕ) : Line → (space : Bool) → (text places : List ℕ) → Cutting → Type 0 where
+  at_end : {line : Line} {space : Bool} {text places : List ℕ} → front line text ≡ End
+      → Cuts file line space text places (tokens [])
+  at_white : {line : Line} {space : Bool} {text places : List ℕ} {out : Cutting} → front line text ≡ WhiteSpace
+      → Cuts file line true (drop 1 text) (drop 1 places) out
+      → Cuts file line space text places out
+  at_newline : {line : Line} {space : Bool} {text places : List ℕ} {out : Cutting} → front line text ≡ Newline
+      → Cuts file Start true (drop 1 text) (drop 1 places) out
+      → Cuts file line space text places out
+  at_comment : {line : Line} {space : Bool} {text places : List ℕ} {out : Cutting} (n : ℕ) → front line text ≡ Comment n
+      → Cuts file line true (drop n text) (drop n places) out
+      → Cuts file line space text places out
+  at_open_comment : {line : Line} {space : Bool} {text places : List ℕ} → front line text ≡ OpenComment
+      → Cuts file line space text places (open_comment (slice_index places 0))
+  at_token : {line : Line} {space : Bool} {text places : List ℕ} {out : Cutting} (m : Match) → front line text ≡ Token m
+      → Cuts file (behind line (take m.len text)) false (drop m.len text) (drop m.len places) out
+      → Cuts file line space text places (prepend (token file line space m.kind (take m.len text) (take m.len places)) out)
+
+-- the cutting of the file of this number
+abbrev pub IsCut : (file : ℕ) → (bytes : List ℕ) → Cutting → Type 0
+IsCut file bytes out = Cuts file Start false (spliced bytes) (offsets bytes) out

@@ -1,0 +1,3 @@
+pub mod Cutting
+pub mod Lexical
+pub mod Splices

@@ -1,0 +1,28 @@
+use hv_base::{Span, Text};
+
+/// The category of a preprocessing token (ISO/IEC 9899:1999, 6.4).
+#[derive(Clone, Copy, Debug, PartialEq, Eq)]
+pub enum PpKind {
+    Identifier,
+    Number,
+    CharConstant,
+    StringLiteral,
+    HeaderName,
+    Punctuator,
+    /// A byte that fits nothing else, or all from an unclosed quote to the end of its line.
+    Other,
+}
+
+/// A preprocessing token of a source file (ISO/IEC 9899:1999, 6.4).
+#[derive(Debug, Drop)]
+pub struct PpTok {
+    pub kind: PpKind,
+    /// Where it stands in the file as it was read.
+    pub span: Span,
+    /// Its spelling behind the splicing of lines.
+    pub text: Text,
+    /// Whether white space, a newline or a comment stands directly before it.
+    pub space: bool,
+    /// Whether it is the first token of its line.
+    pub first: bool,
+}
