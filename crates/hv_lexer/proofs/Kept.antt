@@ -1,0 +1,22 @@
+-- The splicing of lines, one splice on.
+use Rattle.std.proofs.Common.{◌≡◌, ℕ, zero, suc, ◌+◌, ◌-◌, ◌<◌, ◌≤◌, List, [], ◌∷◌, ◌++◌, refl, sym, ◌∙◌, ap, arith, length, map, take, drop, add-zero}
+use Rattle.std.proofs.lemmas.List.{take_rest, drop-drop}
+use Rattle.hv_toks.specs.Splices.{Mark, kept, splice_len}
+
+kept-deleted : (k offset : ℕ) (bytes : List ℕ) → kept k offset bytes ≡ kept 0 (offset + k) (drop k bytes)
+kept-deleted zero offset bytes = ap (λ n. kept 0 n bytes) (sym (add-zero offset))
+kept-deleted (suc k) offset [] = refl
+kept-deleted (suc k) offset (byte ∷ bytes) = kept-deleted k (offset + 1) bytes ∙ ap (λ n. kept 0 n (drop k bytes)) (omega arith)
+
+kept-splice : (offset n : ℕ) (bytes : List ℕ) → (n ≡ 0 → ⊥) → n ≡ splice_len bytes → kept 0 offset bytes ≡ kept 0 (offset + n) (drop n bytes)
+kept-splice offset zero bytes some e = absurd (some refl)
+kept-splice offset (suc k) [] some e = absurd (some e)
+kept-splice offset (suc k) (byte ∷ bytes) some e =
+    let f : splice_len (byte ∷ bytes) ≡ suc k = sym e in
+    rw (f, kept) (kept-deleted k (offset + 1) bytes ∙ ap (λ n. kept 0 n (drop k bytes)) (omega arith))
+
+pub kept-step : (bytes : List ℕ) (at n : ℕ) → (n ≡ 0 → ⊥) → n ≡ splice_len (take (length bytes - at) (drop at bytes))
+    → kept 0 at (drop at bytes) ≡ kept 0 (at + n) (drop (at + n) bytes)
+kept-step bytes at n some e =
+    let f = rw take_rest at e in
+    kept-splice at n (drop at bytes) some f ∙ ap (λ bs. kept 0 (at + n) bs) (drop-drop n at bytes)

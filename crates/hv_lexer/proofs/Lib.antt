@@ -1,0 +1,4 @@
+pub mod Gaps
+pub mod Kept
+pub mod Longest
+pub mod Punctuators

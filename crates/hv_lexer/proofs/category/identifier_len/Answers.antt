@@ -1,0 +1,13 @@
+use Rattle.std.proofs.Common.{sym, ap, ◌∙◌, ◌+◌, ◌<◌, length, arith}
+use Rattle.std.proofs.lemmas.List.{take_rest}
+use Rattle.hv_lexer.specs.Lengths.{one_more}
+use Rattle.hv_lexer.proofs.Longest.{identifier-yes, identifier-no}
+use Rattle.hv_lexer.proofs.category.identifier_len.Goals as goal
+
+pub returns-in-len1-up-clause-value : goal.returns-in-len1-up-clause-value
+returns-in-len1-up-clause-value c =
+    ap (λ n. 1 + n) (rw take_rest at c.word_len.ensures.value)
+    ∙ sym (identifier-yes c.args.text.now (omega (arith, c.in-len1-up.len_at_least)) (sym c.is_nondigit.ensures ∙ c.if-is_nondigit.true))
+
+pub returns-in_default-2-clause-value : goal.returns-in_default-2-clause-value
+returns-in_default-2-clause-value c = sym (identifier-no c.args.text.now (sym c.is_nondigit.ensures ∙ c.if-is_nondigit.false))
