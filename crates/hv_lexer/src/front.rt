@@ -2,7 +2,7 @@
 
 ghost use Rattle.std.specs.Prelude.{◌≡◌, ◌≤◌, ◌<◌, length, IsTrue, codes, nat_eq};
 ghost use Rattle.std.specs.List.{starts_with};
-ghost use Rattle.hv_lexer.specs.Fronts.{front_len};
+ghost use Rattle.hv_lexer.specs.Fronts.{front_len, IsSome};
 ghost use Rattle.hv_toks.specs.Cutting.{longer, longest_token, other, token_at, block_comment, front};
 
 use crate::category::{
@@ -75,7 +75,7 @@ fn block_comment(text: &[u8]) -> Front
 pub(crate) fn front(line: Line, text: &[u8]) -> Front
     ensures value { result ≡ front line text.now }
     ensures within { front_len result ≤ length text.now }
-    ensures some { 0 < length text.now → 0 < front_len result }
+    ensures some { IsSome result }
 {
     if text.is_empty() {
         Front::End

@@ -1,9 +1,31 @@
 //! Cuts source files into preprocessing tokens.
 #![tactic(auto)]
 
+ghost use Rattle.std.specs.Prelude.{IfOk, IfErr};
+ghost use Rattle.hv_lexer.specs.Refusal.{IsRefusalOf};
+ghost use Rattle.hv_toks.specs.Cutting.{IsCut, tokens};
+
 mod category;
+mod cut;
 mod front;
 mod gap;
 mod punctuator;
+mod refusal;
 mod splices;
 
+pub use refusal::LexRefusal;
+
+use hv_base::List;
+use hv_toks::PpTok;
+use std::alloc::Global;
+
+/// Cuts the file of this number into its preprocessing tokens.
+pub fn lex(alloc: Global, file: u32, bytes: &[u8]) -> Result<List<PpTok>, LexRefusal>
+    ensures ok { IfOk result (λ list. IsCut file bytes.now (tokens list)) }
+    ensures refused { IfErr result (IsRefusalOf (IsCut file bytes.now)) }
+{
+    let Ok(spliced) = splices::splice(alloc, bytes) else {
+        return Err(LexRefusal::Memory);
+    };
+    cut::cut(alloc, file, spliced.text.as_slice(), spliced.offsets.as_slice())
+}
