@@ -2,8 +2,8 @@
 #![tactic(auto)]
 
 ghost use Rattle.std.specs.Prelude.{IfOk, IfErr};
-ghost use Rattle.hv_lexer.specs.Refusal.{IsRefusalOf};
-ghost use Rattle.hv_toks.specs.Cutting.{IsCut, tokens};
+ghost use Rattle.hv_lexer.specs.Refusal.{IsRefusalOf, Tells};
+ghost use Rattle.hv_toks.specs.Cutting.{Cutting, IsCut, tokens};
 
 mod category;
 mod cut;
@@ -23,9 +23,13 @@ use std::alloc::Global;
 pub fn lex(alloc: Global, file: u32, bytes: &[u8]) -> Result<List<PpTok>, LexRefusal>
     ensures ok { IfOk result (λ list. IsCut file bytes.now (tokens list)) }
     ensures refused { IfErr result (IsRefusalOf (IsCut file bytes.now)) }
+    ensures only { (cutting : Cutting) → IsCut file bytes.now cutting → Tells result cutting }
 {
     let Ok(spliced) = splices::splice(alloc, bytes) else {
         return Err(LexRefusal::Memory);
     };
     cut::cut(alloc, file, spliced.text.as_slice(), spliced.offsets.as_slice())
 }
+
+#[cfg(test)]
+mod tests;

@@ -1,0 +1,123 @@
+use super::*;
+use hv_base::Span;
+use hv_toks::PpKind;
+use std::process::Abort;
+use std::test::Fail;
+
+/// A token: its kind, its offsets, its spelling, whether white space stands before it, whether it is the
+/// first of its line.
+type Row = (PpKind, u64, u64, &'static str, bool, bool);
+
+fn assert_token<R: Abort>(rt: &R, token: &PpTok, row: &Row) {
+    let (kind, start, end, text, space, first) = *row;
+    assert_eq!(rt; token.kind, kind, "kind of {text}");
+    assert_eq!(rt; token.span, Span { file: 7, start, end });
+    assert!(rt; token.text.as_slice() == text.as_bytes(), "spelling of {text}");
+    assert_eq!(rt; token.space, space, "space of {text}");
+    assert_eq!(rt; token.first, first, "first of {text}");
+}
+
+#[test]
+fn files_are_cut(rt: HostRuntime) -> Result<(), Fail> {
+    use PpKind::{CharConstant, HeaderName, Identifier, Number, Other, Punctuator, StringLiteral};
+    let table: [(&str, &[Row]); 12] = [
+        ("", &[]),
+        (
+            "a+++b",
+            &[
+                (Identifier, 0, 1, "a", false, true),
+                (Punctuator, 1, 3, "++", false, false),
+                (Punctuator, 3, 4, "+", false, false),
+                (Identifier, 4, 5, "b", false, false),
+            ],
+        ),
+        (
+            "x/**/y",
+            &[
+                (Identifier, 0, 1, "x", false, true),
+                (Identifier, 5, 6, "y", true, false),
+            ],
+        ),
+        ("'ab\n", &[(Other, 0, 3, "'ab", false, true)]),
+        ("\"ab\r\n", &[(Other, 0, 3, "\"ab", false, true)]),
+        (
+            "i\\\nf\\\r\n(",
+            &[
+                (Identifier, 0, 4, "if", false, true),
+                (Punctuator, 7, 8, "(", false, false),
+            ],
+        ),
+        (
+            "// a\\\nb\n c",
+            &[(Identifier, 9, 10, "c", true, true)],
+        ),
+        (
+            " # include <a//b>\n<a>",
+            &[
+                (Punctuator, 1, 2, "#", true, true),
+                (Identifier, 3, 10, "include", true, false),
+                (HeaderName, 11, 17, "<a//b>", true, false),
+                (Punctuator, 18, 19, "<", true, true),
+                (Identifier, 19, 20, "a", false, false),
+                (Punctuator, 20, 21, ">", false, false),
+            ],
+        ),
+        (
+            "\"/*\\\"\" L'x' L\"\" '\\q' ''",
+            &[
+                (StringLiteral, 0, 6, "\"/*\\\"\"", false, true),
+                (CharConstant, 7, 11, "L'x'", true, false),
+                (StringLiteral, 12, 15, "L\"\"", true, false),
+                (CharConstant, 16, 20, "'\\q'", true, false),
+                (CharConstant, 21, 23, "''", true, false),
+            ],
+        ),
+        (
+            "1.e+5-x .5...",
+            &[
+                (Number, 0, 5, "1.e+5", false, true),
+                (Punctuator, 5, 6, "-", false, false),
+                (Identifier, 6, 7, "x", false, false),
+                (Number, 8, 13, ".5...", true, false),
+            ],
+        ),
+        (
+            "@..>>=",
+            &[
+                (Other, 0, 1, "@", false, true),
+                (Punctuator, 1, 2, ".", false, false),
+                (Punctuator, 2, 3, ".", false, false),
+                (Punctuator, 3, 6, ">>=", false, false),
+            ],
+        ),
+        (
+            "a /* \n */ b",
+            &[
+                (Identifier, 0, 1, "a", false, true),
+                (Identifier, 10, 11, "b", true, false),
+            ],
+        ),
+    ];
+    for (text, rows) in table {
+        let Ok(tokens) = lex(rt.alloc(), 7, text.as_bytes()) else {
+            return Err(Fail);
+        };
+        assert_eq!(rt; tokens.len(), rows.len(), "at {text}");
+        for (token, row) in tokens.as_slice().iter().zip(rows) {
+            assert_token(&rt, token, row);
+        }
+    }
+    Ok(())
+}
+
+#[test]
+fn open_comments_are_refused(rt: HostRuntime) {
+    let table = [("/*", 0), ("a /* *", 2), ("\\\n/\\\n*/", 2), ("/**/ /*/", 5)];
+    for (text, at) in table {
+        let offset = match lex(rt.alloc(), 7, text.as_bytes()) {
+            Err(LexRefusal::OpenComment { offset }) => Some(offset),
+            _ => None,
+        };
+        assert_eq!(rt; offset, Some(at), "at {text}");
+    }
+}
