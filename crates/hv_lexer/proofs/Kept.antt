@@ -43,7 +43,7 @@ places-below (byte ∷ bytes) zero offset k h =
     elim (splice_len (byte ∷ bytes)) as (λ n. splice_len (byte ∷ bytes) ≡ n → get_or (places 0 offset (byte ∷ bytes)) k 0 < offset + length (byte ∷ bytes)) [
       | zero ↦ λ e. let shown = places-shown offset byte bytes zero e in
           rw shown (below-first offset (offset + length (byte ∷ bytes)) (places 0 (offset + 1) bytes) (omega arith)
-            (λ j l. let below = places-below bytes 0 (offset + 1) j l in omega arith) k (rw shown at h))
+          (λ j l. let below = places-below bytes 0 (offset + 1) j l in omega arith) k (rw shown at h))
       | suc d ↦ λ e. let shown = places-shown offset byte bytes (suc d) e in
           rw shown (let below = places-below bytes d (offset + 1) k (rw shown at h) in omega arith)
     ] refl

@@ -107,7 +107,14 @@ pub(crate) fn cut(
             Front::Token(found) => {
                 let end = at + found.len;
                 let before = Before { file, line, space };
-                add(&mut tokens, alloc, before, found.kind, &text[at..end], &places[at..end])?;
+                add(
+                    &mut tokens,
+                    alloc,
+                    before,
+                    found.kind,
+                    &text[at..end],
+                    &places[at..end],
+                )?;
                 line = behind(line, &text[at..end]);
                 space = false;
                 at = end;

@@ -23,12 +23,33 @@ fn longest_token(text: &[u8]) -> Match
     ensures value { result ≡ longest_token text.now }
     ensures within { result.len ≤ length text.now }
 {
-    let identifier = Match { kind: PpKind::Identifier, len: identifier_len(text) };
-    let number = Match { kind: PpKind::Number, len: number_len(text) };
-    let char_constant = Match { kind: PpKind::CharConstant, len: char_constant_len(text) };
-    let string_literal = Match { kind: PpKind::StringLiteral, len: string_literal_len(text) };
-    let punctuator = Match { kind: PpKind::Punctuator, len: punctuator_len(text) };
-    longer(identifier, longer(number, longer(char_constant, longer(string_literal, punctuator))))
+    let identifier = Match {
+        kind: PpKind::Identifier,
+        len: identifier_len(text),
+    };
+    let number = Match {
+        kind: PpKind::Number,
+        len: number_len(text),
+    };
+    let char_constant = Match {
+        kind: PpKind::CharConstant,
+        len: char_constant_len(text),
+    };
+    let string_literal = Match {
+        kind: PpKind::StringLiteral,
+        len: string_literal_len(text),
+    };
+    let punctuator = Match {
+        kind: PpKind::Punctuator,
+        len: punctuator_len(text),
+    };
+    longer(
+        identifier,
+        longer(
+            number,
+            longer(char_constant, longer(string_literal, punctuator)),
+        ),
+    )
 }
 
 /// What fits nothing: an unclosed quote with all its line, or one byte.
@@ -42,7 +63,10 @@ fn other(text: &[u8]) -> Match
         [b'\'' | b'"', rest @ ..] => 1 + line_len(rest),
         _ => 1,
     };
-    Match { kind: PpKind::Other, len }
+    Match {
+        kind: PpKind::Other,
+        len,
+    }
 }
 
 fn token_at(line: Line, text: &[u8]) -> Match
@@ -53,7 +77,10 @@ fn token_at(line: Line, text: &[u8]) -> Match
     if let Line::Include = line {
         let len = header_name_len(text);
         if 0 < len {
-            return Match { kind: PpKind::HeaderName, len };
+            return Match {
+                kind: PpKind::HeaderName,
+                len,
+            };
         }
     }
     let found = longest_token(text);
@@ -68,7 +95,11 @@ fn block_comment(text: &[u8]) -> Front
     ensures some { 0 < front_len result }
 {
     let len = closing_len(&text[2..]);
-    if len == 0 { Front::OpenComment } else { Front::Comment(2 + len) }
+    if len == 0 {
+        Front::OpenComment
+    } else {
+        Front::Comment(2 + len)
+    }
 }
 
 /// What the text begins with.

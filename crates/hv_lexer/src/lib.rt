@@ -13,10 +13,9 @@ mod punctuator;
 mod refusal;
 mod splices;
 
-pub use refusal::LexRefusal;
-
 use hv_base::List;
 use hv_toks::PpTok;
+pub use refusal::LexRefusal;
 use std::alloc::Global;
 
 /// Cuts the file of this number into its preprocessing tokens.
@@ -28,7 +27,12 @@ pub fn lex(alloc: Global, file: u32, bytes: &[u8]) -> Result<List<PpTok>, LexRef
     let Ok(spliced) = splices::splice(alloc, bytes) else {
         return Err(LexRefusal::Memory);
     };
-    cut::cut(alloc, file, spliced.text.as_slice(), spliced.offsets.as_slice())
+    cut::cut(
+        alloc,
+        file,
+        spliced.text.as_slice(),
+        spliced.offsets.as_slice(),
+    )
 }
 
 #[cfg(test)]

@@ -11,8 +11,18 @@ type Row = (PpKind, u64, u64, &'static str, bool, bool);
 fn assert_token<R: Abort>(rt: &R, token: &PpTok, row: &Row) {
     let (kind, start, end, text, space, first) = *row;
     assert_eq!(rt; token.kind, kind, "kind of {text}");
-    assert_eq!(rt; token.span, Span { file: 7, start, end });
-    assert!(rt; token.text.as_slice() == text.as_bytes(), "spelling of {text}");
+    assert_eq!(rt;
+        token.span,
+        Span {
+            file: 7,
+            start,
+            end
+        }
+    );
+    assert!(rt;
+        token.text.as_slice() == text.as_bytes(),
+        "spelling of {text}"
+    );
     assert_eq!(rt; token.space, space, "space of {text}");
     assert_eq!(rt; token.first, first, "first of {text}");
 }
@@ -47,10 +57,7 @@ fn files_are_cut(rt: HostRuntime) -> Result<(), Fail> {
                 (Punctuator, 7, 8, "(", false, false),
             ],
         ),
-        (
-            "// a\\\nb\n c",
-            &[(Identifier, 9, 10, "c", true, true)],
-        ),
+        ("// a\\\nb\n c", &[(Identifier, 9, 10, "c", true, true)]),
         (
             " # include <a//b>\n<a>",
             &[
@@ -99,9 +106,7 @@ fn files_are_cut(rt: HostRuntime) -> Result<(), Fail> {
         ),
     ];
     for (text, rows) in table {
-        let Ok(tokens) = lex(rt.alloc(), 7, text.as_bytes()) else {
-            return Err(Fail);
-        };
+        let tokens = lex(rt.alloc(), 7, text.as_bytes())?;
         assert_eq!(rt; tokens.len(), rows.len(), "at {text}");
         for (token, row) in tokens.as_slice().iter().zip(rows) {
             assert_token(&rt, token, row);
@@ -112,7 +117,12 @@ fn files_are_cut(rt: HostRuntime) -> Result<(), Fail> {
 
 #[test]
 fn open_comments_are_refused(rt: HostRuntime) {
-    let table = [("/*", 0), ("a /* *", 2), ("\\\n/\\\n*/", 2), ("/**/ /*/", 5)];
+    let table = [
+        ("/*", 0),
+        ("a /* *", 2),
+        ("\\\n/\\\n*/", 2),
+        ("/**/ /*/", 5),
+    ];
     for (text, at) in table {
         let offset = match lex(rt.alloc(), 7, text.as_bytes()) {
             Err(LexRefusal::OpenComment { offset }) => Some(offset),

@@ -9,4 +9,4 @@ cut-requires-clause-bounded c = offsets-fit c.args.bytes.now c.as_slice-2.result
 pub returns-clause-only : goal.returns-clause-only
 returns-clause-only c =
     tells c.args.file c.args.bytes.now c.as_slice.result.now c.as_slice-2.result.now c.cut.result
-      (c.as_slice.ensures ∙ c.in-Ok.ensures.text) (c.as_slice-2.ensures ∙ c.in-Ok.ensures.offsets) c.cut.ensures.ok c.cut.ensures.refused
+    (c.as_slice.ensures ∙ c.in-Ok.ensures.text) (c.as_slice-2.ensures ∙ c.in-Ok.ensures.offsets) c.cut.ensures.ok c.cut.ensures.refused

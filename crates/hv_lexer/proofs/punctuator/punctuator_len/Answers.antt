@@ -12,9 +12,9 @@ returns-then-begins_with_pair-clause-value c =
 pub returns-then-begins_with_single-clause-value : goal.returns-then-begins_with_single-clause-value
 returns-then-begins_with_single-clause-value c =
     sym (one-first c.args.text.now (sym c.begins_with_triple.ensures ∙ c.if-begins_with_triple.false) (sym c.begins_with_pair.ensures ∙ c.if-begins_with_pair.false)
-      (sym c.begins_with_single.ensures ∙ c.if-begins_with_single.true))
+    (sym c.begins_with_single.ensures ∙ c.if-begins_with_single.true))
 
 pub returns-else-begins_with_single-clause-value : goal.returns-else-begins_with_single-clause-value
 returns-else-begins_with_single-clause-value c =
     sym (none-first c.args.text.now (sym c.begins_with_triple.ensures ∙ c.if-begins_with_triple.false) (sym c.begins_with_pair.ensures ∙ c.if-begins_with_pair.false)
-      (sym c.begins_with_single.ensures ∙ c.if-begins_with_single.false))
+    (sym c.begins_with_single.ensures ∙ c.if-begins_with_single.false))
