@@ -1,8 +1,8 @@
 -- Lines and comments, one byte on.
-use Rattle.std.proofs.Common.{◌≡◌, ℕ, ◌+◌, ◌-◌, ◌<◌, ◌≤◌, Bool, true, false, List, [], ◌∷◌, cond, refl, sym, ◌∙◌, ap, arith, length, get_or, take, drop}
+use Rattle.std.proofs.Common.{◌≡◌, ℕ, ◌+◌, ◌-◌, ◌<◌, Bool, false, List, ◌∷◌, refl, sym, ◌∙◌, ap, length, get_or, take, drop}
 use Rattle.std.specs.Prelude.{nat_eq, codes}
 use Rattle.std.specs.List.{starts_with}
-use Rattle.std.proofs.lemmas.List.{drop_more, take_rest, at_drop_more}
+use Rattle.std.proofs.lemmas.List.{take_rest, at_drop_more}
 use Rattle.hv_toks.specs.Cutting.{ends_line, line_len, closing_len}
 use Rattle.hv_lexer.specs.Lengths.{one_more}
 use Rattle.hv_lexer.proofs.Longest.{shifted, shifted-more}

@@ -1,7 +1,7 @@
 -- The splicing of lines, one splice on.
-use Rattle.std.proofs.Common.{◌≡◌, ℕ, zero, suc, ◌+◌, ◌-◌, ◌<◌, ◌≤◌, List, [], ◌∷◌, ◌++◌, refl, sym, ◌∙◌, ap, arith, length, map, get_or, take, drop, add-zero}
+use Rattle.std.proofs.Common.{◌≡◌, ℕ, zero, suc, ◌+◌, ◌-◌, ◌<◌, List, [], ◌∷◌, refl, sym, ◌∙◌, ap, arith, length, map, get_or, take, drop, add-zero}
 use Rattle.std.proofs.lemmas.List.{take_rest, drop-drop}
-use Rattle.hv_toks.specs.Splices.{Mark, kept, offsets, splice_len}
+use Rattle.hv_toks.specs.Splices.{kept, offsets, splice_len}
 
 kept-deleted : (k offset : ℕ) (bytes : List ℕ) → kept k offset bytes ≡ kept 0 (offset + k) (drop k bytes)
 kept-deleted zero offset bytes = ap (λ n. kept 0 n bytes) (sym (add-zero offset))
@@ -22,10 +22,10 @@ kept-step bytes at n some e =
     kept-splice at n (drop at bytes) some f ∙ ap (λ bs. kept 0 (at + n) bs) (drop-drop n at bytes)
 
 -- each offset is below the length of the file
-abbrev places : ℕ → ℕ → List ℕ → List ℕ
+abbrev pub places : ℕ → ℕ → List ℕ → List ℕ
 places deleted offset bytes = map (λ mark. mark.offset) (kept deleted offset bytes)
 
-places-shown : (offset byte : ℕ) (bytes : List ℕ) (n : ℕ) → splice_len (byte ∷ bytes) ≡ n
+pub places-shown : (offset byte : ℕ) (bytes : List ℕ) (n : ℕ) → splice_len (byte ∷ bytes) ≡ n
     → places 0 offset (byte ∷ bytes) ≡ elim n [ zero ↦ offset ∷ places 0 (offset + 1) bytes | suc k ↦ places k (offset + 1) bytes ]
 places-shown offset byte bytes zero e = rw (e, kept) refl
 places-shown offset byte bytes (suc k) e = rw (e, kept) refl

@@ -2,5 +2,8 @@ pub mod Gaps
 pub mod Kept
 pub mod Longest
 pub mod Only
+pub mod Parting
 pub mod Punctuators
 pub mod Reaches
+pub mod Rising
+pub mod Views

@@ -1,5 +1,5 @@
 -- A file has one cutting, so the answer that has it is the only one.
-use Rattle.std.proofs.Common.{◌≡◌, ℕ, Bool, false, List}
+use Rattle.std.proofs.Common.{◌≡◌, ℕ, false, List}
 use Rattle.std.specs.Prelude.{Result, Ok, Err, IfOk, IfErr}
 use Rattle.hv_toks.specs.declared.front.Line.TheVariants.{Start}
 use Rattle.hv_toks.specs.declared.token.PpTok.{PpTok}
@@ -22,3 +22,10 @@ pub tells : (file : ℕ) (bytes text places : List ℕ) (answer : Result (List P
     → (cutting : Cutting) → IsCut file bytes cutting → Tells answer cutting
 tells file bytes text places answer t p ok refused cutting other =
     tells-only file text places answer ok refused cutting (rw (t, p) other)
+
+-- what every cutting keeps, the answer keeps
+pub if_cut : (file : ℕ) (bytes text places : List ℕ) (answer : Result (List PpTok) LexRefusal) (P : List PpTok → Type 0)
+    → text ≡ spliced bytes → places ≡ offsets bytes → ((list : List PpTok) → IsCut file bytes (tokens list) → P list)
+    → IfOk answer (λ list. Cuts file Start false text places (tokens list)) → IfOk answer P
+if_cut file bytes text places (Ok list) P t p law ok = law list (rw (t, p) at ok)
+if_cut file bytes text places (Err refusal) P t p law ok = tt

@@ -1,6 +1,6 @@
 -- The longest punctuator is one of the first three fronts.
-use Rattle.std.proofs.Common.{◌≡◌, ℕ, suc, ◌+◌, ◌<◌, ◌≤◌, Bool, true, false, List, [], ◌∷◌, cond, refl, sym, ◌∙◌, ap, arith, length, take}
-use Rattle.std.specs.Prelude.{◌&&◌, nat_le}
+use Rattle.std.proofs.Common.{◌≡◌, ℕ, ◌≤◌, Bool, true, false, List, [], ◌∷◌, cond, refl, sym, ◌∙◌, ap, arith, length, take}
+use Rattle.std.specs.Prelude.{nat_le}
 use Rattle.std.proofs.lemmas.Bool.Decides.{nat_tests}
 use Rattle.hv_toks.specs.Lexical.{longest, is_punctuator}
 use Rattle.hv_lexer.specs.Lengths.{begins_with_punctuator}

@@ -1,14 +1,12 @@
 -- Small files and what they are cut into.
-use Rattle.std.proofs.Common.{◌≡◌, ℕ, ◌+◌, Bool, true, false, List, [], ◌∷◌, ◌++◌, refl}
+use Rattle.std.proofs.Common.{◌≡◌, ℕ, Bool, true, false, List, [], ◌∷◌, ◌++◌, refl}
 use Rattle.std.specs.Prelude.{codes}
-use Rattle.hv_toks.specs.declared.front.Front.{Front}
-use Rattle.hv_toks.specs.declared.front.Front.TheVariants.{End, WhiteSpace, Newline, Comment, OpenComment, Token}
-use Rattle.hv_toks.specs.declared.front.Line.TheVariants.{Start, Hash, Include, Rest}
+use Rattle.hv_toks.specs.declared.front.Front.TheVariants.{Comment, Token}
+use Rattle.hv_toks.specs.declared.front.Line.TheVariants.{Start, Rest}
 use Rattle.hv_toks.specs.declared.token.PpKind.{PpKind}
 use Rattle.hv_toks.specs.declared.token.PpKind.TheVariants.{Identifier, Number, CharConstant, StringLiteral, HeaderName, Punctuator, Other}
 use Rattle.hv_toks.specs.declared.token.PpTok.{PpTok}
-use Rattle.hv_toks.specs.Lexical.{longest, is_number, is_identifier}
-use Rattle.hv_toks.specs.Cutting.{Cuts, IsCut, tokens, open_comment, at_end, at_white, at_newline, at_comment, at_open_comment, at_token, front, found}
+use Rattle.hv_toks.specs.Cutting.{IsCut, tokens, open_comment, at_end, at_white, at_newline, at_comment, at_open_comment, at_token, front, found}
 
 tok : PpKind → ℕ → ℕ → List ℕ → Bool → Bool → PpTok
 tok kind start end text space first = record { kind = kind; span = record { file = 0; start = start; end = end }; text = text; space = space; first = first }

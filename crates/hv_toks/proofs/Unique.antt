@@ -1,7 +1,6 @@
 -- A text is cut in one way.
-use Rattle.std.proofs.Common.{◌≡◌, ℕ, Bool, true, false, List, refl, ap, sym, ◌∙◌, take, drop, subst}
-use Rattle.hv_toks.specs.declared.front.Front.{Front}
-use Rattle.hv_toks.specs.declared.front.Front.TheVariants.{End, WhiteSpace, Newline, Comment, OpenComment, Token}
+use Rattle.std.proofs.Common.{◌≡◌, ℕ, Bool, true, false, List, refl, sym, ◌∙◌, take, drop, subst}
+use Rattle.hv_toks.specs.declared.front.Front.TheVariants.{Comment, Token}
 use Rattle.hv_toks.specs.declared.front.Line.{Line}
 use Rattle.hv_toks.specs.declared.front.Match.{Match}
 use Rattle.hv_toks.specs.Cutting.{Cutting, Cuts, prepend, at_end, at_white, at_newline, at_comment, at_open_comment, at_token, behind, token}

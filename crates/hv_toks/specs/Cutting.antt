@@ -1,9 +1,8 @@
 -- How a source file is cut into preprocessing tokens, translation phase 3 (5.1.1.2, 6.4): from the left,
 -- white space and comments, or else the longest token.
-use Rattle.std.specs.Prelude.{ℕ, zero, suc, ◌+◌, ◌-◌, ◌≡◌, Bool, true, false, cond, not, ◌&&◌, ◌||◌, ◌==◌, nat_le, nat_lt, nat_eq, List, [], ◌∷◌, codes, take, drop, length, slice_index}
+use Rattle.std.specs.Prelude.{ℕ, zero, suc, ◌+◌, ◌-◌, ◌≡◌, Bool, true, false, cond, ◌&&◌, ◌||◌, ◌==◌, nat_lt, nat_eq, List, [], ◌∷◌, codes, take, drop, length, slice_index}
 use Rattle.std.specs.List.{starts_with}
 use Rattle.std.specs.Str.{bytes_eq}
-use Rattle.hv_base.specs.declared.span.Span.{Span}
 use Rattle.hv_toks.specs.declared.front.Front.{Front}
 use Rattle.hv_toks.specs.declared.front.Front.TheVariants.{End, WhiteSpace, Newline, Comment, OpenComment, Token}
 use Rattle.hv_toks.specs.declared.front.Line.{Line}

@@ -1,7 +1,7 @@
 -- The categories of preprocessing tokens (6.4), each as a test on a whole text, and the longest front of
 -- a text that passes such a test. Texts are those behind the splicing of lines.
 -- Not in here: universal character names, trigraphs and digraphs.
-use Rattle.std.specs.Prelude.{ℕ, zero, suc, ◌+◌, Bool, true, false, cond, not, ◌&&◌, ◌||◌, ◌==◌, nat_le, List, [], ◌∷◌, codes}
+use Rattle.std.specs.Prelude.{ℕ, zero, suc, Bool, true, false, cond, not, ◌&&◌, ◌||◌, ◌==◌, nat_le, List, [], ◌∷◌, codes}
 use Rattle.std.specs.List.{list_all, list_any}
 use Rattle.std.specs.Str.{bytes_eq}
 

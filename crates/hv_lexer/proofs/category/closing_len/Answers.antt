@@ -1,7 +1,5 @@
-use Rattle.std.proofs.Common.{sym, ap, ◌∙◌, ◌+◌, ◌<◌, length, arith}
-use Rattle.std.proofs.lemmas.List.{take_rest}
-use Rattle.hv_lexer.specs.Lengths.{one_more}
-use Rattle.hv_lexer.proofs.Longest.{longest-closes, closes-stop, closes-never, closes-end, shifted-zero}
+use Rattle.std.proofs.Common.{sym, ◌∙◌, arith}
+use Rattle.hv_lexer.proofs.Longest.{longest-closes, closes-stop, closes-never, closes-end}
 use Rattle.hv_lexer.proofs.category.closing_len.Goals as goal
 
 pub returns-then-byte-eq10-clause-value : goal.returns-then-byte-eq10-clause-value

@@ -1,4 +1,4 @@
-use Rattle.std.proofs.Common.{◌≡◌, ◌+◌, false, drop}
+use Rattle.std.proofs.Common.{◌≡◌, false, drop}
 use Rattle.hv_lexer.proofs.Longest.{closes_len, shifted}
 use Rattle.hv_lexer.proofs.category.closing_len.Given as goal
 

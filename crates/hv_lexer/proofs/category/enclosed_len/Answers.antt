@@ -1,6 +1,4 @@
-use Rattle.std.proofs.Common.{sym, ap, ◌∙◌, ◌+◌, ◌<◌, length, arith}
-use Rattle.std.proofs.lemmas.List.{take_rest}
-use Rattle.hv_lexer.specs.Lengths.{one_more}
+use Rattle.std.proofs.Common.{sym, ◌∙◌}
 use Rattle.hv_lexer.proofs.Longest.{enclosed-yes, enclosed-no}
 use Rattle.hv_lexer.proofs.category.enclosed_len.Goals as goal
 

@@ -1,6 +1,4 @@
-use Rattle.std.proofs.Common.{sym, ap, ◌∙◌, ◌+◌, ◌<◌, length, arith}
-use Rattle.std.proofs.lemmas.List.{take_rest}
-use Rattle.hv_lexer.specs.Lengths.{one_more}
+use Rattle.std.proofs.Common.{sym, ◌∙◌, arith}
 use Rattle.hv_lexer.proofs.Longest.{longest-number_rest, number-stop, number-end}
 use Rattle.hv_lexer.proofs.category.number_rest_len.Goals as goal
 

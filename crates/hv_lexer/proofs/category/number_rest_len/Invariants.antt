@@ -1,5 +1,4 @@
 use Rattle.std.proofs.Common.{◌≡◌, ◌+◌, false, drop}
-use Rattle.hv_toks.specs.Lexical.{longest, continues_number}
 use Rattle.hv_lexer.proofs.Longest.{number_rest_len}
 use Rattle.hv_lexer.proofs.category.number_rest_len.Given as goal
 

@@ -1,4 +1,3 @@
-use Rattle.std.proofs.Common.{◌+◌, ◌≤◌, length, arith}
 use Rattle.hv_lexer.proofs.Reaches.{reaches-white, reaches-newline, reaches-comment, reaches-end, reaches-open, reaches-token, room}
 use Rattle.hv_lexer.proofs.cut.cut.Goals as goal
 

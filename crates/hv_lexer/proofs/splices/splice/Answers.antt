@@ -1,4 +1,4 @@
-use Rattle.std.proofs.Common.{◌≡◌, ◌++◌, ◌∙◌, ap, map}
+use Rattle.std.proofs.Common.{◌++◌, ◌∙◌, ap, map}
 use Rattle.hv_lexer.proofs.Kept.{kept-step}
 use Rattle.hv_lexer.proofs.splices.splice.Goals as goal
 

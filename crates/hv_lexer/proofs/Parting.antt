@@ -1,0 +1,225 @@
+-- Between the tokens of a cutting there is nothing but white space and comments.
+use Rattle.std.proofs.Common.{◌≡◌, ℕ, zero, suc, ◌+◌, Bool, true, false, List, [], ◌∷◌, ◌++◌, cond, refl, ap, arith, map, take, drop, append_assoc, one-add, ◌⊎◌, inl, inr}
+use Rattle.std.specs.Prelude.{nat_eq, ◌==◌, ◌&&◌, ◌||◌, not, codes, IsTrue}
+use Rattle.std.specs.List.{starts_with, list_all}
+use Rattle.std.proofs.lemmas.List.{take-append-drop}
+use Rattle.std.proofs.lemmas.Bool.Decides.{nat_tests}
+use Rattle.hv_toks.specs.declared.front.Front.{Front}
+use Rattle.hv_toks.specs.declared.front.Front.TheVariants.{End, WhiteSpace, Newline, Comment}
+use Rattle.hv_toks.specs.declared.front.Line.{Line}
+use Rattle.hv_toks.specs.declared.token.PpTok.{PpTok}
+use Rattle.hv_toks.specs.Splices.{spliced}
+use Rattle.hv_toks.specs.Cutting.{Cutting, Cuts, IsCut, tokens, open_comment, prepend, at_end, at_white, at_newline, at_comment, at_open_comment, at_token, front, is_white, ends_line, line_len, closing_len}
+use Rattle.hv_lexer.specs.Laws.{IsLineComment, IsBlockComment, nothing, white, line_comment, block_comment, Parted, last, next}
+use Rattle.hv_lexer.proofs.Views.{View, view, view_newline, view_white, view_line, view_open, view_block, view_token}
+
+-- a text with more in front
+
+behind-white : {byte : ℕ} {spellings : List (List ℕ)} {rest : List ℕ} → IsTrue (is_white byte || byte == 10) → Parted spellings rest → Parted spellings (byte ∷ rest)
+behind-white h (last g) = last (white h g)
+behind-white {byte} h (next gap spelling rest g p) = next (byte ∷ gap) spelling rest (white h g) p
+
+behind-line : (comment : List ℕ) {spellings : List (List ℕ)} {rest : List ℕ} → IsLineComment comment → Parted spellings rest → Parted spellings (comment ++ rest)
+behind-line comment h (last g) = last (line_comment comment _ h g)
+behind-line comment h (next gap spelling rest g p) = rw (← append_assoc comment gap (spelling ++ rest)) (next (comment ++ gap) spelling rest (line_comment comment gap h g) p)
+
+behind-block : (comment : List ℕ) {spellings : List (List ℕ)} {rest : List ℕ} → IsBlockComment comment → Parted spellings rest → Parted spellings (comment ++ rest)
+behind-block comment h (last g) = last (block_comment comment _ h g)
+behind-block comment h (next gap spelling rest g p) = rw (← append_assoc comment gap (spelling ++ rest)) (next (comment ++ gap) spelling rest (block_comment comment gap h g) p)
+
+-- tests
+
+not_both : (a : Bool) → (a && false) ≡ true → ⊥
+not_both true e = cc
+not_both false e = cc
+
+never_both : (a : Bool) → (a && false) ≡ false
+never_both true = refl
+never_both false = refl
+
+two : (p q b c : ℕ) → ((p == b) && ((q == c) && true)) ≡ true → (b ≡ p) × (c ≡ q)
+two p q b c e = (grind (arith, nat_tests), grind (arith, nat_tests))
+
+or-left : (a b : Bool) → a ≡ true → (a || b) ≡ true
+or-left a b e = rw e refl
+
+or-right : (a b : Bool) → b ≡ true → (a || b) ≡ true
+or-right true b e = refl
+or-right false b e = e
+
+first_fails : (a b : Bool) → ((a && true) || b) ≡ false → a ≡ false
+first_fails true b e = cc
+first_fails false b e = refl
+
+other_way : (a b : ℕ) → (a == b) ≡ false → (b == a) ≡ false
+other_way a b e = grind (arith, nat_tests)
+
+no_line_end : (byte : ℕ) (bytes : List ℕ) → ends_line (byte ∷ bytes) ≡ false → (byte == 10) ≡ false
+no_line_end byte bytes e = other_way 10 byte (first_fails _ _ e)
+
+-- cases
+
+no_end : (line : Line) (byte : ℕ) (bytes : List ℕ) (f : Front) → View line byte bytes f → f ≡ End → byte ∷ bytes ≡ []
+no_end line byte bytes f (view_newline a) e = cc
+no_end line byte bytes f (view_white a) e = cc
+no_end line byte bytes f (view_line a) e = cc
+no_end line byte bytes f view_open e = cc
+no_end line byte bytes f (view_block k a b) e = cc
+no_end line byte bytes f view_token e = cc
+
+of_white : (line : Line) (byte : ℕ) (bytes : List ℕ) (f : Front) → View line byte bytes f → f ≡ WhiteSpace → is_white byte ≡ true
+of_white line byte bytes f (view_newline a) e = cc
+of_white line byte bytes f (view_white a) e = a
+of_white line byte bytes f (view_line a) e = cc
+of_white line byte bytes f view_open e = cc
+of_white line byte bytes f (view_block k a b) e = cc
+of_white line byte bytes f view_token e = cc
+
+of_newline : (line : Line) (byte : ℕ) (bytes : List ℕ) (f : Front) → View line byte bytes f → f ≡ Newline → (byte == 10) ≡ true
+of_newline line byte bytes f (view_newline a) e = a
+of_newline line byte bytes f (view_white a) e = cc
+of_newline line byte bytes f (view_line a) e = cc
+of_newline line byte bytes f view_open e = cc
+of_newline line byte bytes f (view_block k a b) e = cc
+of_newline line byte bytes f view_token e = cc
+
+-- line comments
+
+no_newline : (text : List ℕ) → list_all (λ byte. not (byte == 10)) (take (line_len text) text) ≡ true
+no_newline [] = refl
+no_newline (byte ∷ bytes) =
+    elim (ends_line (byte ∷ bytes)) as (λ t. ends_line (byte ∷ bytes) ≡ t → list_all (λ b. not (b == 10)) (take (cond t 0 (1 + line_len bytes)) (byte ∷ bytes)) ≡ true) [
+      | true ↦ λ e. refl
+      | false ↦ λ e. rw one-add (rw (no_line_end byte bytes e, no_newline bytes) refl)
+    ] refl
+
+line_comment-shape : (byte : ℕ) (bytes : List ℕ) → starts_with nat_eq (byte ∷ bytes) (codes "//") ≡ true → (rest : List ℕ) × (byte ∷ bytes ≡ 47 ∷ 47 ∷ rest)
+line_comment-shape byte [] e = absurd (not_both _ e)
+line_comment-shape byte (c ∷ bytes) e = let p = two 47 47 byte c e in (bytes, rw (p.0, p.1) refl)
+
+block_comment-shape : (byte : ℕ) (bytes : List ℕ) → starts_with nat_eq (byte ∷ bytes) (codes "/*") ≡ true → (rest : List ℕ) × (byte ∷ bytes ≡ 47 ∷ 42 ∷ rest)
+block_comment-shape byte [] e = absurd (not_both _ e)
+block_comment-shape byte (c ∷ bytes) e = let p = two 47 42 byte c e in (bytes, rw (p.0, p.1) refl)
+
+closing-shape : (byte : ℕ) (bytes : List ℕ) → starts_with nat_eq (byte ∷ bytes) (codes "*/") ≡ true → (rest : List ℕ) × (byte ∷ bytes ≡ 42 ∷ 47 ∷ rest)
+closing-shape byte [] e = absurd (not_both _ e)
+closing-shape byte (c ∷ bytes) e = let p = two 42 47 byte c e in (bytes, rw (p.0, p.1) refl)
+
+to_line_comment : (rest : List ℕ) → IsLineComment (take (line_len (47 ∷ 47 ∷ rest)) (47 ∷ 47 ∷ rest))
+to_line_comment rest =
+    let e : line_len (47 ∷ 47 ∷ rest) ≡ suc (suc (line_len rest)) = omega arith in
+    rw e (take (line_len rest) rest, refl, no_newline rest)
+
+line_comment-of : (text rest : List ℕ) → text ≡ 47 ∷ 47 ∷ rest → IsLineComment (take (line_len text) text)
+line_comment-of text rest e = rw e (to_line_comment rest)
+
+is_line_comment : (byte : ℕ) (bytes : List ℕ) → starts_with nat_eq (byte ∷ bytes) (codes "//") ≡ true → IsLineComment (take (line_len (byte ∷ bytes)) (byte ∷ bytes))
+is_line_comment byte bytes e = let p = line_comment-shape byte bytes e in line_comment-of (byte ∷ bytes) p.0 p.1
+
+-- block comments
+
+abbrev Closed : List ℕ → ℕ → Type 0
+Closed rest n = (inner : List ℕ) × (take (suc n) rest ≡ inner ++ 42 ∷ 47 ∷ []) × (closing_len inner ≡ 0)
+
+same_start : (byte : ℕ) (bytes inner : List ℕ) (n : ℕ) → take (suc n) bytes ≡ inner ++ 42 ∷ 47 ∷ [] → starts_with nat_eq (byte ∷ bytes) (codes "*/") ≡ false
+    → starts_with nat_eq (byte ∷ inner) (codes "*/") ≡ false
+same_start byte bytes [] n e f = never_both _
+same_start byte [] (c ∷ inner) n e f = absurd (cc)
+same_start byte (d ∷ bytes) (c ∷ inner) n e f = let p : d ≡ c = cc in rw p at f
+
+longer-inner : (byte : ℕ) (inner : List ℕ) → starts_with nat_eq (byte ∷ inner) (codes "*/") ≡ false → closing_len inner ≡ 0 → closing_len (byte ∷ inner) ≡ 0
+longer-inner byte inner e f = rw (e, f) refl
+
+closed-of : (text rest : List ℕ) (n : ℕ) → text ≡ 42 ∷ 47 ∷ rest → n ≡ 1 → Closed text n
+closed-of text rest n e q = rw (e, q) ([], refl, refl)
+
+closed-here : (byte : ℕ) (bytes : List ℕ) (n : ℕ) → starts_with nat_eq (byte ∷ bytes) (codes "*/") ≡ true → 2 ≡ suc n → Closed (byte ∷ bytes) n
+closed-here byte bytes n e f =
+    let p = closing-shape byte bytes e in
+    closed-of (byte ∷ bytes) p.0 n p.1 (omega arith)
+
+closed-later : (byte : ℕ) (bytes : List ℕ) (n m : ℕ) → starts_with nat_eq (byte ∷ bytes) (codes "*/") ≡ false → suc (suc m) ≡ suc n → Closed bytes m → Closed (byte ∷ bytes) n
+closed-later byte bytes n m e f h =
+    let q : n ≡ suc m = omega arith in
+    rw q (byte ∷ h.0, ap (λ xs. byte ∷ xs) h.1, longer-inner byte h.0 (same_start byte bytes h.0 m h.1 e) h.2)
+
+closed : (rest : List ℕ) (n : ℕ) → closing_len rest ≡ suc n → Closed rest n
+closed [] n e = absurd (cc)
+closed (byte ∷ bytes) n e =
+    elim (starts_with nat_eq (byte ∷ bytes) (codes "*/")) as (λ t. starts_with nat_eq (byte ∷ bytes) (codes "*/") ≡ t → cond t 2 (elim (closing_len bytes) [ zero ↦ 0 | suc k ↦ suc (suc k) ]) ≡ suc n → Closed (byte ∷ bytes) n) [
+      | true ↦ λ f g. closed-here byte bytes n f g
+      | false ↦ λ f g. elim (closing_len bytes) as (λ len. closing_len bytes ≡ len → elim len [ zero ↦ 0 | suc k ↦ suc (suc k) ] ≡ suc n → Closed (byte ∷ bytes) n) [
+        | zero ↦ λ i j. absurd (cc)
+        | suc m ↦ λ i j. closed-later byte bytes n m f j (closed bytes m i)
+      ] refl g
+    ] refl e
+
+to_block_comment : (rest : List ℕ) (n : ℕ) → closing_len rest ≡ suc n → IsBlockComment (take (2 + suc n) (47 ∷ 42 ∷ rest))
+to_block_comment rest n e =
+    let k : 2 + suc n ≡ suc (suc (suc n)) = omega arith in
+    let h = closed rest n e in
+    rw k (h.0, ap (λ xs. 47 ∷ 42 ∷ xs) h.1, h.2)
+
+block_comment-of : (text rest : List ℕ) (n : ℕ) → text ≡ 47 ∷ 42 ∷ rest → closing_len (drop 2 text) ≡ suc n → IsBlockComment (take (2 + suc n) text)
+block_comment-of text rest n e f = rw e (to_block_comment rest n (rw e at f))
+
+is_block_comment : (byte : ℕ) (bytes : List ℕ) (n : ℕ) → starts_with nat_eq (byte ∷ bytes) (codes "/*") ≡ true → closing_len (drop 2 (byte ∷ bytes)) ≡ suc n
+    → IsBlockComment (take (2 + suc n) (byte ∷ bytes))
+is_block_comment byte bytes n e f = let p = block_comment-shape byte bytes e in block_comment-of (byte ∷ bytes) p.0 n p.1 f
+
+of_comment : (line : Line) (byte : ℕ) (bytes : List ℕ) (f : Front) (n : ℕ) → View line byte bytes f → f ≡ Comment n → IsLineComment (take n (byte ∷ bytes)) ⊎ IsBlockComment (take n (byte ∷ bytes))
+of_comment line byte bytes f n (view_newline a) e = absurd (cc)
+of_comment line byte bytes f n (view_white a) e = absurd (cc)
+of_comment line byte bytes f n (view_line a) e = let p : line_len (byte ∷ bytes) ≡ n = cc in inl (rw p at (is_line_comment byte bytes a))
+of_comment line byte bytes f n view_open e = absurd (cc)
+of_comment line byte bytes f n (view_block k a b) e = let p : 2 + suc k ≡ n = cc in inr (rw p at (is_block_comment byte bytes k a b))
+of_comment line byte bytes f n view_token e = absurd (cc)
+
+-- the fronts of a text
+
+front-end : (line : Line) (text : List ℕ) → front line text ≡ End → text ≡ []
+front-end line [] e = refl
+front-end line (byte ∷ bytes) e = no_end line byte bytes _ (view line byte bytes) e
+
+front-white : (line : Line) (spellings : List (List ℕ)) (text : List ℕ) → front line text ≡ WhiteSpace → Parted spellings (drop 1 text) → Parted spellings text
+front-white line spellings [] e p = absurd (cc)
+front-white line spellings (byte ∷ bytes) e p = behind-white (or-left _ _ (of_white line byte bytes _ (view line byte bytes) e)) p
+
+front-newline : (line : Line) (spellings : List (List ℕ)) (text : List ℕ) → front line text ≡ Newline → Parted spellings (drop 1 text) → Parted spellings text
+front-newline line spellings [] e p = absurd (cc)
+front-newline line spellings (byte ∷ bytes) e p = behind-white (or-right _ _ (of_newline line byte bytes _ (view line byte bytes) e)) p
+
+front-comment : (line : Line) (spellings : List (List ℕ)) (text : List ℕ) (n : ℕ) → front line text ≡ Comment n → Parted spellings (drop n text) → Parted spellings text
+front-comment line spellings [] n e p = absurd (cc)
+front-comment line spellings (byte ∷ bytes) n e p =
+    let whole : Parted spellings (take n (byte ∷ bytes) ++ drop n (byte ∷ bytes)) = elim (of_comment line byte bytes _ n (view line byte bytes) e) [
+      | inl is_line ↦ behind-line (take n (byte ∷ bytes)) is_line p
+      | inr is_block ↦ behind-block (take n (byte ∷ bytes)) is_block p
+    ] in
+    rw take-append-drop at whole
+
+-- the tokens of a cutting, if it has some
+abbrev Parts : List ℕ → Cutting → Type 0
+Parts text (tokens toks) = Parted (map (λ tok. tok.text) toks) text
+Parts text (open_comment offset) = Unit {0}
+
+module _ (text rest : List ℕ) (grow : (spellings : List (List ℕ)) → Parted spellings rest → Parted spellings text) where
+  grown : (out : Cutting) → Parts rest out → Parts text out
+  grown (tokens toks) p = grow _ p
+  grown (open_comment offset) p = tt
+
+with_token : (text : List ℕ) (n : ℕ) (tok : PpTok) (out : Cutting) → tok.text ≡ take n text → Parts (drop n text) out → Parts text (prepend tok out)
+with_token text n tok (tokens toks) e p =
+    rw (e) (rw take-append-drop at (next [] (take n text) (drop n text) nothing p))
+with_token text n tok (open_comment offset) e p = tt
+
+parts : {file : ℕ} {line : Line} {space : Bool} {text places : List ℕ} {out : Cutting} → Cuts file line space text places out → Parts text out
+parts {line = line} {text = text} (at_end e) = rw (front-end line text e) (last nothing)
+parts {line = line} {text = text} (at_white e c) = grown text (drop 1 text) (λ s p. front-white line s text e p) _ (parts c)
+parts {line = line} {text = text} (at_newline e c) = grown text (drop 1 text) (λ s p. front-newline line s text e p) _ (parts c)
+parts {line = line} {text = text} (at_comment n e c) = grown text (drop n text) (λ s p. front-comment line s text n e p) _ (parts c)
+parts (at_open_comment e) = tt
+parts {text = text} (at_token m e c) = with_token text m.len _ _ refl (parts c)
+
+pub lex-parts : (file : ℕ) (bytes : List ℕ) (toks : List PpTok) → IsCut file bytes (tokens toks) → Parted (map (λ tok. tok.text) toks) (spliced bytes)
+lex-parts file bytes toks c = parts c
