@@ -6,4 +6,5 @@ pub mod Parting
 pub mod Punctuators
 pub mod Reaches
 pub mod Rising
+pub mod Total
 pub mod Views

@@ -93,7 +93,7 @@ no_newline (byte ∷ bytes) =
       | false ↦ λ e. rw one-add (rw (no_line_end byte bytes e, no_newline bytes) refl)
     ] refl
 
-line_comment-shape : (byte : ℕ) (bytes : List ℕ) → starts_with nat_eq (byte ∷ bytes) (codes "//") ≡ true → (rest : List ℕ) × (byte ∷ bytes ≡ 47 ∷ 47 ∷ rest)
+pub line_comment-shape : (byte : ℕ) (bytes : List ℕ) → starts_with nat_eq (byte ∷ bytes) (codes "//") ≡ true → (rest : List ℕ) × (byte ∷ bytes ≡ 47 ∷ 47 ∷ rest)
 line_comment-shape byte [] e = absurd (not_both _ e)
 line_comment-shape byte (c ∷ bytes) e = let p = two 47 47 byte c e in (bytes, rw (p.0, p.1) refl)
 

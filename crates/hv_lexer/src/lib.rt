@@ -20,12 +20,14 @@ use hv_toks::PpTok;
 pub use refusal::LexRefusal;
 use std::alloc::Global;
 
-/// Cuts the file of this number into its preprocessing tokens.
+/// Cuts the file of this number into its preprocessing tokens, or refuses it for a comment that is not
+/// closed. Want of memory may be answered at any file.
 pub fn lex(alloc: Global, file: u32, bytes: &[u8]) -> Result<List<PpTok>, LexRefusal>
     ensures ok { IfOk result (λ list. IsCut file bytes.now (tokens list)) }
     ensures refused { IfErr result (IsRefusalOf (IsCut file bytes.now)) }
     ensures rising { IfOk result (λ list. Rise file 0 (length bytes.now) list) }
     ensures parted { IfOk result (λ list. Parted (map (λ tok. tok.text) list) (spliced bytes.now)) }
+    ensures total { (cutting : Cutting) × IsCut file bytes.now cutting }
     ensures only { (cutting : Cutting) → IsCut file bytes.now cutting → Tells result cutting }
 {
     let Ok(spliced) = splices::splice(alloc, bytes) else {

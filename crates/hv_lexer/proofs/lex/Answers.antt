@@ -3,6 +3,7 @@ use Rattle.hv_lexer.proofs.Kept.{offsets-fit}
 use Rattle.hv_lexer.proofs.Only.{if_cut, tells}
 use Rattle.hv_lexer.proofs.Parting.{lex-parts}
 use Rattle.hv_lexer.proofs.Rising.{lex-rises}
+use Rattle.hv_lexer.proofs.Total.{total}
 use Rattle.hv_lexer.proofs.lex.Goals as goal
 
 pub cut-requires-clause-bounded : goal.cut-requires-clause-bounded
@@ -24,3 +25,9 @@ returns-clause-parted c =
     if_cut c.args.file c.args.bytes.now c.as_slice.result.now c.as_slice-2.result.now c.cut.result _
     (c.as_slice.ensures ∙ c.in-Ok.ensures.text) (c.as_slice-2.ensures ∙ c.in-Ok.ensures.offsets)
     (lex-parts c.args.file c.args.bytes.now) c.cut.ensures.ok
+
+pub returns-clause-total : goal.returns-clause-total
+returns-clause-total c = total c.args.file c.args.bytes.now
+
+pub returns-in_default-clause-total : goal.returns-in_default-clause-total
+returns-in_default-clause-total c = total c.args.file c.args.bytes.now
