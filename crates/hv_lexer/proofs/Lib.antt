@@ -6,5 +6,6 @@ pub mod Parting
 pub mod Punctuators
 pub mod Reaches
 pub mod Rising
+pub mod Spliced
 pub mod Total
 pub mod Views

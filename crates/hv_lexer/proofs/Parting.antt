@@ -10,7 +10,8 @@ use Rattle.hv_toks.specs.declared.front.Line.{Line}
 use Rattle.hv_toks.specs.declared.token.PpTok.{PpTok}
 use Rattle.hv_toks.specs.Splices.{spliced}
 use Rattle.hv_toks.specs.Cutting.{Cutting, Cuts, IsCut, tokens, open_comment, prepend, at_end, at_white, at_newline, at_comment, at_open_comment, at_token, front, is_white, ends_line, line_len, closing_len}
-use Rattle.hv_lexer.specs.Laws.{IsLineComment, IsBlockComment, nothing, white, line_comment, block_comment, Parted, last, next}
+use Rattle.hv_lexer.specs.Laws.{IsLineComment, IsBlockComment, nothing, white, line_comment, block_comment, IsParted, Parted, last, next}
+use Rattle.hv_lexer.proofs.Spliced.{is_spliced}
 use Rattle.hv_lexer.proofs.Views.{View, view, view_newline, view_white, view_line, view_open, view_block, view_token}
 
 -- a text with more in front
@@ -221,5 +222,5 @@ parts {line = line} {text = text} (at_comment n e c) = grown text (drop n text) 
 parts (at_open_comment e) = tt
 parts {text = text} (at_token m e c) = with_token text m.len _ _ refl (parts c)
 
-pub lex-parts : (file : ℕ) (bytes : List ℕ) (toks : List PpTok) → IsCut file bytes (tokens toks) → Parted (map (λ tok. tok.text) toks) (spliced bytes)
-lex-parts file bytes toks c = parts c
+pub lex-parts : (file : ℕ) (bytes : List ℕ) (toks : List PpTok) → IsCut file bytes (tokens toks) → IsParted (map (λ tok. tok.text) toks) bytes
+lex-parts file bytes toks c = (spliced bytes, is_spliced bytes, parts c)

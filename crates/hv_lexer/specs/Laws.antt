@@ -1,14 +1,22 @@
--- What any cutting keeps: spans rise, and between tokens there is nothing but white space and comments.
+-- What any cutting keeps: spans rise, and between tokens there is nothing but white space, comments and splices.
 use Rattle.std.specs.Prelude.{ℕ, ◌≡◌, ◌≤◌, ◌<◌, ◌||◌, ◌==◌, not, List, [], ◌∷◌, ◌++◌, IsTrue}
 use Rattle.std.specs.List.{list_all}
 use Rattle.hv_toks.specs.declared.token.PpTok.{PpTok}
 use Rattle.hv_toks.specs.Cutting.{is_white, closing_len}
+use Rattle.hv_toks.specs.Splices.{splice_len}
 
 -- the spans are of this file, rise from `low` to `high`, and do not overlap
 abbrev pub Rise : (file low high : ℕ) → List PpTok → Type 0
 Rise file low high [] = low ≤ high
 Rise file low high (tok ∷ toks) =
     (tok.span.file ≡ file) × (low ≤ tok.span.start) × (tok.span.start < tok.span.end) × Rise file tok.span.end high toks
+
+-- `text` is what is left of a file where each backslash directly before a newline is deleted with it (5.1.1.2)
+pub data IsSpliced : (bytes text : List ℕ) → Type 0 where
+  done : IsSpliced [] []
+  splice : {bytes text : List ℕ} → IsSpliced bytes text → IsSpliced (92 ∷ 10 ∷ bytes) text
+  long_splice : {bytes text : List ℕ} → IsSpliced bytes text → IsSpliced (92 ∷ 13 ∷ 10 ∷ bytes) text
+  byte : {bytes text : List ℕ} (b : ℕ) → splice_len (b ∷ bytes) ≡ 0 → IsSpliced bytes text → IsSpliced (b ∷ bytes) (b ∷ text)
 
 -- `//` and bytes that are no newlines (6.4.9)
 abbrev pub IsLineComment : List ℕ → Type 0
@@ -30,3 +38,7 @@ pub data Parted : (spellings : List (List ℕ)) → List ℕ → Type 0 where
   last : {gap : List ℕ} → IsGap gap → Parted [] gap
   next : {spellings : List (List ℕ)} (gap spelling rest : List ℕ) → IsGap gap → Parted spellings rest
       → Parted (spelling ∷ spellings) (gap ++ (spelling ++ rest))
+
+-- so is a file, behind its splices
+abbrev pub IsParted : (spellings : List (List ℕ)) → (bytes : List ℕ) → Type 0
+IsParted spellings bytes = (text : List ℕ) × IsSpliced bytes text × Parted spellings text
