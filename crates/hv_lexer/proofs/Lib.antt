@@ -7,5 +7,6 @@ pub mod Punctuators
 pub mod Reaches
 pub mod Rising
 pub mod Spliced
+pub mod Tests
 pub mod Total
 pub mod Views

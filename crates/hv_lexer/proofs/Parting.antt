@@ -1,59 +1,37 @@
 -- Between the tokens of a cutting there is nothing but white space and comments.
-use Rattle.std.proofs.Common.{◌≡◌, ℕ, zero, suc, ◌+◌, Bool, true, false, List, [], ◌∷◌, ◌++◌, cond, refl, ap, arith, map, take, drop, append_assoc, one-add, ◌⊎◌, inl, inr}
-use Rattle.std.specs.Prelude.{nat_eq, ◌==◌, ◌&&◌, ◌||◌, not, codes, IsTrue}
+use Rattle.std.proofs.Common.{◌≡◌, ℕ, zero, suc, ◌+◌, Bool, true, false, List, [], ◌∷◌, ◌++◌, cond, refl, ◌∙◌, ◌-◌, ap, arith, length, take, drop, append_assoc, one-add, ◌⊎◌, inl, inr}
+use Rattle.std.specs.Prelude.{nat_eq, ◌==◌, not, codes, slice_index}
 use Rattle.std.specs.List.{starts_with, list_all}
-use Rattle.std.proofs.lemmas.List.{take-append-drop}
-use Rattle.std.proofs.lemmas.Bool.Decides.{nat_tests}
+use Rattle.std.proofs.lemmas.List.{take-append-drop, length-take, length-append}
 use Rattle.hv_toks.specs.declared.front.Front.{Front}
 use Rattle.hv_toks.specs.declared.front.Front.TheVariants.{End, WhiteSpace, Newline, Comment}
 use Rattle.hv_toks.specs.declared.front.Line.{Line}
 use Rattle.hv_toks.specs.declared.token.PpTok.{PpTok}
-use Rattle.hv_toks.specs.Splices.{spliced}
+use Rattle.hv_toks.specs.Splices.{spliced, offsets}
 use Rattle.hv_toks.specs.Cutting.{Cutting, Cuts, IsCut, tokens, open_comment, prepend, at_end, at_white, at_newline, at_comment, at_open_comment, at_token, front, is_white, ends_line, line_len, closing_len}
-use Rattle.hv_lexer.specs.Laws.{IsLineComment, IsBlockComment, nothing, white, line_comment, block_comment, IsParted, Parted, last, next}
+use Rattle.hv_lexer.specs.Laws.{IsLineComment, IsBlockComment, IsGap, nothing, white, line_comment, block_comment, IsParted, Parted, last, next}
+use Rattle.hv_lexer.proofs.Rising.{dropped, same_lengths}
 use Rattle.hv_lexer.proofs.Spliced.{is_spliced}
+use Rattle.hv_lexer.proofs.Tests.{not_both, never_both, two, or-left, or-right, first_fails, other_way}
 use Rattle.hv_lexer.proofs.Views.{View, view, view_newline, view_white, view_line, view_open, view_block, view_token}
 
 -- a text with more in front
+behind : (front fronts : List ℕ) {toks : List PpTok} {rest more : List ℕ} → length front ≡ length fronts → ((gap : List ℕ) → IsGap gap → IsGap (front ++ gap))
+    → Parted toks rest more → Parted toks (front ++ rest) (fronts ++ more)
+behind front fronts same extend (last g) = last (extend _ g)
+behind front fronts same extend (next tok gap rest before here more g len a b c p) =
+    let both : length (front ++ gap) ≡ length (fronts ++ before) = simp length-append (omega arith) in
+    rw (← append_assoc front gap (tok.text ++ rest), ← append_assoc fronts before (here ++ more))
+    (next tok (front ++ gap) rest (fronts ++ before) here more (extend gap g) both a b c p)
 
-behind-white : {byte : ℕ} {spellings : List (List ℕ)} {rest : List ℕ} → IsTrue (is_white byte || byte == 10) → Parted spellings rest → Parted spellings (byte ∷ rest)
-behind-white h (last g) = last (white h g)
-behind-white {byte} h (next gap spelling rest g p) = next (byte ∷ gap) spelling rest (white h g) p
+same_take : (n : ℕ) (text places : List ℕ) → length text ≡ length places → length (take n text) ≡ length (take n places)
+same_take n text places same = simp length-take (rw same refl)
 
-behind-line : (comment : List ℕ) {spellings : List (List ℕ)} {rest : List ℕ} → IsLineComment comment → Parted spellings rest → Parted spellings (comment ++ rest)
-behind-line comment h (last g) = last (line_comment comment _ h g)
-behind-line comment h (next gap spelling rest g p) = rw (← append_assoc comment gap (spelling ++ rest)) (next (comment ++ gap) spelling rest (line_comment comment gap h g) p)
-
-behind-block : (comment : List ℕ) {spellings : List (List ℕ)} {rest : List ℕ} → IsBlockComment comment → Parted spellings rest → Parted spellings (comment ++ rest)
-behind-block comment h (last g) = last (block_comment comment _ h g)
-behind-block comment h (next gap spelling rest g p) = rw (← append_assoc comment gap (spelling ++ rest)) (next (comment ++ gap) spelling rest (block_comment comment gap h g) p)
-
--- tests
-
-not_both : (a : Bool) → (a && false) ≡ true → ⊥
-not_both true e = cc
-not_both false e = cc
-
-never_both : (a : Bool) → (a && false) ≡ false
-never_both true = refl
-never_both false = refl
-
-two : (p q b c : ℕ) → ((p == b) && ((q == c) && true)) ≡ true → (b ≡ p) × (c ≡ q)
-two p q b c e = (grind (arith, nat_tests), grind (arith, nat_tests))
-
-or-left : (a b : Bool) → a ≡ true → (a || b) ≡ true
-or-left a b e = rw e refl
-
-or-right : (a b : Bool) → b ≡ true → (a || b) ≡ true
-or-right true b e = refl
-or-right false b e = e
-
-first_fails : (a b : Bool) → ((a && true) || b) ≡ false → a ≡ false
-first_fails true b e = cc
-first_fails false b e = refl
-
-other_way : (a b : ℕ) → (a == b) ≡ false → (b == a) ≡ false
-other_way a b e = grind (arith, nat_tests)
+gapped : (n : ℕ) (text places : List ℕ) (toks : List PpTok) → length text ≡ length places → ((gap : List ℕ) → IsGap gap → IsGap (take n text ++ gap))
+    → Parted toks (drop n text) (drop n places) → Parted toks text places
+gapped n text places toks same extend p =
+    let whole = behind (take n text) (take n places) (same_take n text places same) extend p in
+    rw take-append-drop at (rw take-append-drop at whole)
 
 no_line_end : (byte : ℕ) (bytes : List ℕ) → ends_line (byte ∷ bytes) ≡ false → (byte == 10) ≡ false
 no_line_end byte bytes e = other_way 10 byte (first_fails _ _ e)
@@ -178,49 +156,55 @@ of_comment line byte bytes f n view_token e = absurd (cc)
 
 -- the fronts of a text
 
+abbrev Extends : List ℕ → Type 0
+Extends front = (gap : List ℕ) → IsGap gap → IsGap (front ++ gap)
+
 front-end : (line : Line) (text : List ℕ) → front line text ≡ End → text ≡ []
 front-end line [] e = refl
 front-end line (byte ∷ bytes) e = no_end line byte bytes _ (view line byte bytes) e
 
-front-white : (line : Line) (spellings : List (List ℕ)) (text : List ℕ) → front line text ≡ WhiteSpace → Parted spellings (drop 1 text) → Parted spellings text
-front-white line spellings [] e p = absurd (cc)
-front-white line spellings (byte ∷ bytes) e p = behind-white (or-left _ _ (of_white line byte bytes _ (view line byte bytes) e)) p
+front-white : (line : Line) (text : List ℕ) → front line text ≡ WhiteSpace → Extends (take 1 text)
+front-white line [] e = absurd (cc)
+front-white line (byte ∷ bytes) e = λ gap g. white (or-left _ _ (of_white line byte bytes _ (view line byte bytes) e)) g
 
-front-newline : (line : Line) (spellings : List (List ℕ)) (text : List ℕ) → front line text ≡ Newline → Parted spellings (drop 1 text) → Parted spellings text
-front-newline line spellings [] e p = absurd (cc)
-front-newline line spellings (byte ∷ bytes) e p = behind-white (or-right _ _ (of_newline line byte bytes _ (view line byte bytes) e)) p
+front-newline : (line : Line) (text : List ℕ) → front line text ≡ Newline → Extends (take 1 text)
+front-newline line [] e = absurd (cc)
+front-newline line (byte ∷ bytes) e = λ gap g. white (or-right _ _ (of_newline line byte bytes _ (view line byte bytes) e)) g
 
-front-comment : (line : Line) (spellings : List (List ℕ)) (text : List ℕ) (n : ℕ) → front line text ≡ Comment n → Parted spellings (drop n text) → Parted spellings text
-front-comment line spellings [] n e p = absurd (cc)
-front-comment line spellings (byte ∷ bytes) n e p =
-    let whole : Parted spellings (take n (byte ∷ bytes) ++ drop n (byte ∷ bytes)) = elim (of_comment line byte bytes _ n (view line byte bytes) e) [
-      | inl is_line ↦ behind-line (take n (byte ∷ bytes)) is_line p
-      | inr is_block ↦ behind-block (take n (byte ∷ bytes)) is_block p
-    ] in
-    rw take-append-drop at whole
+front-comment : (line : Line) (text : List ℕ) (n : ℕ) → front line text ≡ Comment n → Extends (take n text)
+front-comment line [] n e = absurd (cc)
+front-comment line (byte ∷ bytes) n e =
+    elim (of_comment line byte bytes _ n (view line byte bytes) e) [
+      | inl is_line ↦ λ gap g. line_comment (take n (byte ∷ bytes)) gap is_line g
+      | inr is_block ↦ λ gap g. block_comment (take n (byte ∷ bytes)) gap is_block g
+    ]
 
 -- the tokens of a cutting, if it has some
-abbrev Parts : List ℕ → Cutting → Type 0
-Parts text (tokens toks) = Parted (map (λ tok. tok.text) toks) text
-Parts text (open_comment offset) = Unit {0}
+abbrev Parts : (text places : List ℕ) → Cutting → Type 0
+Parts text places (tokens toks) = Parted toks text places
+Parts text places (open_comment offset) = Unit {0}
 
-module _ (text rest : List ℕ) (grow : (spellings : List (List ℕ)) → Parted spellings rest → Parted spellings text) where
-  grown : (out : Cutting) → Parts rest out → Parts text out
-  grown (tokens toks) p = grow _ p
-  grown (open_comment offset) p = tt
+grown : (n : ℕ) (text places : List ℕ) (out : Cutting) → length text ≡ length places → Extends (take n text) → Parts (drop n text) (drop n places) out → Parts text places out
+grown n text places (tokens toks) same extend p = gapped n text places toks same extend p
+grown n text places (open_comment offset) same extend p = tt
 
-with_token : (text : List ℕ) (n : ℕ) (tok : PpTok) (out : Cutting) → tok.text ≡ take n text → Parts (drop n text) out → Parts text (prepend tok out)
-with_token text n tok (tokens toks) e p =
-    rw (e) (rw take-append-drop at (next [] (take n text) (drop n text) nothing p))
-with_token text n tok (open_comment offset) e p = tt
+with_token : (n : ℕ) (text places : List ℕ) (tok : PpTok) (out : Cutting) → length text ≡ length places → tok.text ≡ take n text
+    → tok.span.start ≡ slice_index (take n places) 0 → tok.span.end ≡ slice_index (take n places) (length (take n places) - 1) + 1
+    → Parts (drop n text) (drop n places) out → Parts text places (prepend tok out)
+with_token n text places tok (tokens toks) same e a b p =
+    let len : length tok.text ≡ length (take n places) = ap length e ∙ same_take n text places same in
+    let whole = next tok [] (drop n text) [] (take n places) (drop n places) nothing refl len a b p in
+    let t : tok.text ++ drop n text ≡ text = rw e (take-append-drop n text) in
+    rw (t, take-append-drop n places) at whole
+with_token n text places tok (open_comment offset) same e a b p = tt
 
-parts : {file : ℕ} {line : Line} {space : Bool} {text places : List ℕ} {out : Cutting} → Cuts file line space text places out → Parts text out
-parts {line = line} {text = text} (at_end e) = rw (front-end line text e) (last nothing)
-parts {line = line} {text = text} (at_white e c) = grown text (drop 1 text) (λ s p. front-white line s text e p) _ (parts c)
-parts {line = line} {text = text} (at_newline e c) = grown text (drop 1 text) (λ s p. front-newline line s text e p) _ (parts c)
-parts {line = line} {text = text} (at_comment n e c) = grown text (drop n text) (λ s p. front-comment line s text n e p) _ (parts c)
-parts (at_open_comment e) = tt
-parts {text = text} (at_token m e c) = with_token text m.len _ _ refl (parts c)
+parts : {file : ℕ} {line : Line} {space : Bool} {text places : List ℕ} {out : Cutting} → length text ≡ length places → Cuts file line space text places out → Parts text places out
+parts {line = line} {text = text} same (at_end e) = rw (front-end line text e) (last nothing)
+parts {line = line} {text = text} {places = places} same (at_white e c) = grown 1 text places _ same (front-white line text e) (parts (dropped 1 text places same) c)
+parts {line = line} {text = text} {places = places} same (at_newline e c) = grown 1 text places _ same (front-newline line text e) (parts (dropped 1 text places same) c)
+parts {line = line} {text = text} {places = places} same (at_comment n e c) = grown n text places _ same (front-comment line text n e) (parts (dropped n text places same) c)
+parts same (at_open_comment e) = tt
+parts {text = text} {places = places} same (at_token m e c) = with_token m.len text places _ _ same refl refl refl (parts (dropped m.len text places same) c)
 
-pub lex-parts : (file : ℕ) (bytes : List ℕ) (toks : List PpTok) → IsCut file bytes (tokens toks) → IsParted (map (λ tok. tok.text) toks) bytes
-lex-parts file bytes toks c = (spliced bytes, is_spliced bytes, parts c)
+pub lex-parts : (file : ℕ) (bytes : List ℕ) (toks : List PpTok) → IsCut file bytes (tokens toks) → IsParted toks bytes
+lex-parts file bytes toks c = (spliced bytes, (offsets bytes, (is_spliced bytes, parts (same_lengths bytes) c)))

@@ -6,7 +6,7 @@ use Rattle.hv_toks.specs.declared.front.Front.TheVariants.{Token}
 use Rattle.hv_toks.specs.declared.front.Line.{Line}
 use Rattle.hv_toks.specs.declared.front.Match.{Match}
 use Rattle.hv_toks.specs.declared.token.PpTok.{PpTok}
-use Rattle.hv_toks.specs.Splices.{kept, splice_len}
+use Rattle.hv_toks.specs.Splices.{kept, offsets, splice_len, spliced}
 use Rattle.hv_toks.specs.Cutting.{Cutting, Cuts, IsCut, tokens, open_comment, prepend, at_end, at_white, at_newline, at_comment, at_open_comment, at_token, front, token, token_at}
 use Rattle.hv_lexer.specs.Laws.{Rise}
 use Rattle.hv_lexer.proofs.Kept.{places, places-shown}
@@ -98,7 +98,7 @@ rises-token file low high line space text ps m n (tokens toks) e h r more =
     let front = rising-front low high n ps h r in
     rw (e, taken-first n ps, taken-last n ps h) (refl, front.0, omega arith, more (get_or ps n 0 + 1) front.2)
 
-dropped : (n : ℕ) (xs ys : List ℕ) → length xs ≡ length ys → length (drop n xs) ≡ length (drop n ys)
+pub dropped : (n : ℕ) (xs ys : List ℕ) → length xs ≡ length ys → length (drop n xs) ≡ length (drop n ys)
 dropped n xs ys e = simp length-drop (rw e refl)
 
 pub rises : (file low high : ℕ) {line : Line} {space : Bool} {text ps : List ℕ} {out : Cutting} → length text ≡ length ps → Rising low high ps
@@ -115,6 +115,9 @@ rises file low high {line = line} {space = space} {text = text} {ps = ps} same r
     rises-token file low high line space text ps m (m.len - 1) out len (omega (arith, fits.0, fits.1)) r
     (λ next rest. rises file next high (dropped m.len text ps same) (rw (← len) at rest) c)
 
+pub same_lengths : (bytes : List ℕ) → length (spliced bytes) ≡ length (offsets bytes)
+same_lengths bytes = length-map (kept 0 0 bytes) (λ mark. mark.byte) ∙ sym (length-map (kept 0 0 bytes) (λ mark. mark.offset))
+
 pub lex-rises : (file : ℕ) (bytes : List ℕ) (toks : List PpTok) → IsCut file bytes (tokens toks) → Rise file 0 (length bytes) toks
 lex-rises file bytes toks c =
-    rises file 0 (length bytes) (length-map (kept 0 0 bytes) (λ mark. mark.byte) ∙ sym (length-map (kept 0 0 bytes) (λ mark. mark.offset))) (let e : 0 + length bytes ≡ length bytes = omega arith in rw e at (rising-places bytes 0 0)) c
+    rises file 0 (length bytes) (same_lengths bytes) (let e : 0 + length bytes ≡ length bytes = omega arith in rw e at (rising-places bytes 0 0)) c

@@ -1,28 +1,19 @@
 -- Behind the splicing of lines a file is as the standard says.
-use Rattle.std.proofs.Common.{◌≡◌, ℕ, zero, suc, ◌+◌, ◌-◌, ◌<◌, ◌≤◌, Bool, true, false, List, [], ◌∷◌, cond, refl, sym, ◌∙◌, ap, arith, length, map, drop}
-use Rattle.std.specs.Prelude.{nat_eq, ◌==◌, ◌&&◌}
+use Rattle.std.proofs.Common.{◌≡◌, ℕ, zero, suc, ◌+◌, ◌≤◌, Bool, true, false, List, [], ◌∷◌, refl, ap, arith, length, map}
+use Rattle.std.specs.Prelude.{nat_eq}
 use Rattle.std.specs.List.{starts_with}
-use Rattle.std.proofs.lemmas.Bool.Decides.{nat_tests}
-use Rattle.hv_toks.specs.Splices.{Mark, kept, splice_len, spliced}
-use Rattle.hv_lexer.specs.Laws.{IsSpliced, done, splice, long_splice, byte}
+use Rattle.hv_toks.specs.Splices.{kept, splice_len, spliced, offsets}
+use Rattle.hv_lexer.specs.Laws.{IsSpliced, all, splice, long_splice, keep}
+use Rattle.hv_lexer.proofs.Tests.{not_both, not_three, two, three}
 
 abbrev text_of : ℕ → List ℕ → List ℕ
 text_of offset bytes = map (λ mark. mark.byte) (kept 0 offset bytes)
 
-not_both : (a : Bool) → (a && false) ≡ true → ⊥
-not_both true e = cc
-not_both false e = cc
+abbrev places_of : ℕ → List ℕ → List ℕ
+places_of offset bytes = map (λ mark. mark.offset) (kept 0 offset bytes)
 
-two : (p q b c : ℕ) → ((p == b) && ((q == c) && true)) ≡ true → (b ≡ p) × (c ≡ q)
-two p q b c e = (grind (arith, nat_tests), grind (arith, nat_tests))
-
-three : (p q r b c d : ℕ) → ((p == b) && ((q == c) && ((r == d) && true))) ≡ true → (b ≡ p) × (c ≡ q) × (d ≡ r)
-three p q r b c d e = (grind (arith, nat_tests), grind (arith, nat_tests), grind (arith, nat_tests))
-
-not_three : (a b : Bool) → (a && (b && false)) ≡ true → ⊥
-not_three true true e = cc
-not_three true false e = cc
-not_three false b e = cc
+abbrev Spliced : ℕ → List ℕ → Type 0
+Spliced offset bytes = IsSpliced offset bytes (text_of offset bytes) (places_of offset bytes)
 
 short-shape : (bytes : List ℕ) → starts_with nat_eq bytes (92 ∷ 10 ∷ []) ≡ true → (rest : List ℕ) × (bytes ≡ 92 ∷ 10 ∷ rest)
 short-shape [] e = absurd (cc)
@@ -35,31 +26,33 @@ long-shape (b ∷ []) e = absurd (not_both _ e)
 long-shape (b ∷ c ∷ []) e = absurd (not_three _ _ e)
 long-shape (b ∷ c ∷ d ∷ rest) e = let p = three 92 13 10 b c d e in (rest, rw (p.0, p.1, p.2) refl)
 
-module _ (n : ℕ) (deeper : (offset : ℕ) (bytes : List ℕ) → length bytes ≤ n → IsSpliced bytes (text_of offset bytes)) where
-  short-of : (offset : ℕ) (bytes rest : List ℕ) → length bytes ≤ suc n → bytes ≡ 92 ∷ 10 ∷ rest → IsSpliced bytes (text_of offset bytes)
+module _ (n : ℕ) (deeper : (offset : ℕ) (bytes : List ℕ) → length bytes ≤ n → Spliced offset bytes) where
+  short-of : (offset : ℕ) (bytes rest : List ℕ) → length bytes ≤ suc n → bytes ≡ 92 ∷ 10 ∷ rest → Spliced offset bytes
   short-of offset bytes rest h e =
       let len : length rest ≤ n = omega (arith, ap length e) in
-      rw e (splice (deeper (offset + 1 + 1) rest len))
+      let far : offset + 1 + 1 ≡ offset + 2 = omega arith in
+      rw (e, far) (splice (deeper (offset + 2) rest len))
 
-  long-of : (offset : ℕ) (bytes rest : List ℕ) → length bytes ≤ suc n → bytes ≡ 92 ∷ 13 ∷ 10 ∷ rest → IsSpliced bytes (text_of offset bytes)
+  long-of : (offset : ℕ) (bytes rest : List ℕ) → length bytes ≤ suc n → bytes ≡ 92 ∷ 13 ∷ 10 ∷ rest → Spliced offset bytes
   long-of offset bytes rest h e =
       let len : length rest ≤ n = omega (arith, ap length e) in
-      rw e (long_splice (deeper (offset + 1 + 1 + 1) rest len))
+      let far : offset + 1 + 1 + 1 ≡ offset + 3 = omega arith in
+      rw (e, far) (long_splice (deeper (offset + 3) rest len))
 
-  byte-of : (offset b : ℕ) (bytes : List ℕ) → length (b ∷ bytes) ≤ suc n → splice_len (b ∷ bytes) ≡ 0 → IsSpliced (b ∷ bytes) (text_of offset (b ∷ bytes))
-  byte-of offset b bytes h e = rw (e, kept) (byte b e (deeper (offset + 1) bytes (omega arith)))
+  byte-of : (offset b : ℕ) (bytes : List ℕ) → length (b ∷ bytes) ≤ suc n → splice_len (b ∷ bytes) ≡ 0 → Spliced offset (b ∷ bytes)
+  byte-of offset b bytes h e = rw (e, kept) (keep b e (deeper (offset + 1) bytes (omega arith)))
 
   front-of : (offset b : ℕ) (bytes : List ℕ) (short long : Bool) → length (b ∷ bytes) ≤ suc n
       → starts_with nat_eq (b ∷ bytes) (92 ∷ 10 ∷ []) ≡ short → starts_with nat_eq (b ∷ bytes) (92 ∷ 13 ∷ 10 ∷ []) ≡ long
-      → IsSpliced (b ∷ bytes) (text_of offset (b ∷ bytes))
+      → Spliced offset (b ∷ bytes)
   front-of offset b bytes true long h e f = let p = short-shape (b ∷ bytes) e in short-of offset (b ∷ bytes) p.0 h p.1
   front-of offset b bytes false true h e f = let p = long-shape (b ∷ bytes) f in long-of offset (b ∷ bytes) p.0 h p.1
   front-of offset b bytes false false h e f = byte-of offset b bytes h (rw (e, f) refl)
 
-spliced-from : (n offset : ℕ) (bytes : List ℕ) → length bytes ≤ n → IsSpliced bytes (text_of offset bytes)
-spliced-from n offset [] h = done
+spliced-from : (n offset : ℕ) (bytes : List ℕ) → length bytes ≤ n → Spliced offset bytes
+spliced-from n offset [] h = all
 spliced-from zero offset (b ∷ bytes) h = absurd (omega arith)
 spliced-from (suc n) offset (b ∷ bytes) h = front-of n (spliced-from n) offset b bytes _ _ h refl refl
 
-pub is_spliced : (bytes : List ℕ) → IsSpliced bytes (spliced bytes)
+pub is_spliced : (bytes : List ℕ) → IsSpliced 0 bytes (spliced bytes) (offsets bytes)
 is_spliced bytes = spliced-from (length bytes) 0 bytes (omega arith)

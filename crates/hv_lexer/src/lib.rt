@@ -1,7 +1,7 @@
 //! Cuts source files into preprocessing tokens.
 #![tactic(auto)]
 
-ghost use Rattle.std.specs.Prelude.{IfOk, IfErr, length, map};
+ghost use Rattle.std.specs.Prelude.{IfOk, IfErr, length};
 ghost use Rattle.hv_lexer.specs.Laws.{IsParted, Rise};
 ghost use Rattle.hv_lexer.specs.Refusal.{IsRefusalOf, Tells};
 ghost use Rattle.hv_toks.specs.Cutting.{Cutting, IsCut, tokens};
@@ -25,7 +25,7 @@ pub fn lex(alloc: Global, file: u32, bytes: &[u8]) -> Result<List<PpTok>, LexRef
     ensures ok { IfOk result (λ list. IsCut file bytes.now (tokens list)) }
     ensures refused { IfErr result (IsRefusalOf (IsCut file bytes.now)) }
     ensures rising { IfOk result (λ list. Rise file 0 (length bytes.now) list) }
-    ensures parted { IfOk result (λ list. IsParted (map (λ tok. tok.text) list) bytes.now) }
+    ensures parted { IfOk result (λ list. IsParted list bytes.now) }
     ensures total { (cutting : Cutting) × IsCut file bytes.now cutting }
     ensures only { (cutting : Cutting) → IsCut file bytes.now cutting → Tells result cutting }
 {
