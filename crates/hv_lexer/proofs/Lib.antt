@@ -1,3 +1,4 @@
+pub mod ByteTests
 pub mod Gaps
 pub mod Kept
 pub mod Longest
@@ -7,6 +8,5 @@ pub mod Punctuators
 pub mod Reaches
 pub mod Rising
 pub mod Spliced
-pub mod Tests
 pub mod Total
 pub mod Views

@@ -12,7 +12,7 @@ use Rattle.hv_toks.specs.Cutting.{Cutting, Cuts, IsCut, tokens, open_comment, pr
 use Rattle.hv_lexer.specs.Laws.{IsLineComment, IsBlockComment, IsGap, nothing, white, line_comment, block_comment, IsParted, Parted, last, next}
 use Rattle.hv_lexer.proofs.Rising.{dropped, same_lengths}
 use Rattle.hv_lexer.proofs.Spliced.{is_spliced}
-use Rattle.hv_lexer.proofs.Tests.{not_both, never_both, two, or-left, or-right, first_fails, other_way}
+use Rattle.hv_lexer.proofs.ByteTests.{not_both, never_both, two, or-left, or-right, first_fails, other_way}
 use Rattle.hv_lexer.proofs.Views.{View, view, view_newline, view_white, view_line, view_open, view_block, view_token}
 
 -- a text with more in front

@@ -4,7 +4,7 @@ use Rattle.std.specs.Prelude.{nat_eq}
 use Rattle.std.specs.List.{starts_with}
 use Rattle.hv_toks.specs.Splices.{kept, splice_len, spliced, offsets}
 use Rattle.hv_lexer.specs.Laws.{IsSpliced, all, splice, long_splice, keep}
-use Rattle.hv_lexer.proofs.Tests.{not_both, not_three, two, three}
+use Rattle.hv_lexer.proofs.ByteTests.{not_both, not_three, two, three}
 
 abbrev text_of : ℕ → List ℕ → List ℕ
 text_of offset bytes = map (λ mark. mark.byte) (kept 0 offset bytes)
