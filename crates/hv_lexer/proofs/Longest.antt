@@ -1,11 +1,11 @@
 -- The longest fronts of the categories, byte by byte.
-use Rattle.std.proofs.Common.{◌≡◌, ℕ, zero, suc, ◌+◌, ◌<◌, ◌≤◌, Bool, true, false, not, List, [], ◌∷◌, cond, refl, sym, ◌∙◌, ap, arith, length, get_or, drop}
+use Rattle.std.proofs.Common.{◌≡◌, ℕ, zero, suc, ◌+◌, ◌<◌, ◌≤◌, Bool, true, false, not, List, [], ◌∷◌, cond, refl, sym, ◌∙◌, ap, arith, length, get_or, take, drop}
 use Rattle.std.specs.Prelude.{◌&&◌, ◌||◌, ◌==◌}
 use Rattle.std.specs.List.{list_all, prefix_len}
 use Rattle.std.proofs.lemmas.List.{drop_more, drop_all}
 use Rattle.std.proofs.lemmas.Bool.Decides.{nat_tests}
 use Rattle.hv_toks.specs.Lexical.{longest, optional, is_nondigit, is_digit, is_word_byte, is_identifier, is_exponent, is_sign, continues_number, begins_with_digit, is_number, is_empty, closes, is_quoted, is_enclosed, is_header_name}
-use Rattle.hv_lexer.specs.Lengths.{one_more}
+use Rattle.hv_lexer.specs.Lengths.{IsLongest, one_more}
 
 -- the length behind one more byte, where `alone` says that the byte is a front by itself
 abbrev pub shift : Bool → ℕ → ℕ
@@ -52,6 +52,32 @@ longest-all p (x ∷ xs) =
       | true ↦ λ e. gate-yes (p x) (list_all p) xs e ∙ (ap (shift true) (longest-all p xs) ∙ shift-true (prefix_len p xs))
       | false ↦ λ e. gate-no (p x) (list_all p) xs e
     ] refl
+
+-- `longest` is the longest
+
+longer-fails : (p : List ℕ → Bool) (x : ℕ) (xs : List ℕ) (n : ℕ) → ((j : ℕ) → n < j → j ≤ length xs → p (x ∷ take j xs) ≡ false)
+    → (k : ℕ) → suc n < k → k ≤ length (x ∷ xs) → p (take k (x ∷ xs)) ≡ false
+longer-fails p x xs n fails zero h l = absurd (omega arith)
+longer-fails p x xs n fails (suc j) h l = fails j (omega arith) (omega arith)
+
+all-fail : (p : List ℕ → Bool) (x : ℕ) (xs : List ℕ) → p (x ∷ []) ≡ false → ((j : ℕ) → 0 < j → j ≤ length xs → p (x ∷ take j xs) ≡ false)
+    → (k : ℕ) → 0 < k → k ≤ length (x ∷ xs) → p (take k (x ∷ xs)) ≡ false
+all-fail p x xs alone fails zero h l = absurd (omega arith)
+all-fail p x xs alone fails (suc zero) h l = alone
+all-fail p x xs alone fails (suc (suc j)) h l = fails (suc j) (omega arith) (omega arith)
+
+grown : (p : List ℕ → Bool) (x : ℕ) (xs : List ℕ) (t : Bool) (n : ℕ) → p (x ∷ []) ≡ t → IsLongest (λ f. p (x ∷ f)) xs n → IsLongest p (x ∷ xs) (shift t n)
+grown p x xs true zero e h = ((λ _. e), longer-fails p x xs 0 h.1)
+grown p x xs false zero e h = ((λ k. absurd (omega arith)), all-fail p x xs e h.1)
+grown p x xs t (suc m) e h = ((λ _. h.0 (omega arith)), longer-fails p x xs (suc m) h.1)
+
+pub longest-is : (p : List ℕ → Bool) (xs : List ℕ) → IsLongest p xs (longest p xs)
+longest-is p [] = ((λ k. absurd (omega arith)), (λ k h l. absurd (omega arith)))
+longest-is p (x ∷ xs) = grown p x xs (p (x ∷ [])) (longest (λ f. p (x ∷ f)) xs) refl (longest-is (λ f. p (x ∷ f)) xs)
+
+-- by a result
+pub longest-from : (p : List ℕ → Bool) (xs : List ℕ) (n : ℕ) → n ≡ longest p xs → IsLongest p xs n
+longest-from p xs n e = rw e (longest-is p xs)
 
 -- identifiers
 

@@ -3,7 +3,7 @@
 ghost use Rattle.std.specs.Prelude.{◌≡◌, ◌≤◌, ◌<◌, ◌-◌, ◌^◌, ◌||◌, ◌==◌, ◌&&◌, length, not, false};
 ghost use Rattle.std.specs.List.{prefix_len, list_any};
 ghost use Rattle.std.specs.Str.{bytes_eq};
-ghost use Rattle.hv_lexer.specs.Lengths.{one_more};
+ghost use Rattle.hv_lexer.specs.Lengths.{IsLongest, one_more};
 ghost use Rattle.hv_toks.specs.Lexical.{longest, continues_number, optional, is_nondigit, is_digit, is_word_byte, is_identifier, is_exponent, is_sign, is_number, begins_with_digit, closes, is_quoted, is_char_constant, is_string_literal, is_enclosed, is_header_name, is_punctuator};
 
 fn is_nondigit(byte: u8) -> bool
@@ -40,6 +40,7 @@ fn word_len(text: &[u8]) -> usize
 
 pub(crate) fn identifier_len(text: &[u8]) -> usize
     ensures value { result ≡ longest is_identifier text.now }
+    ensures greatest { IsLongest is_identifier text.now result }
     ensures within { result ≤ length text.now }
 {
     match text {
@@ -90,6 +91,7 @@ fn behind_byte(len: usize) -> usize
 
 pub(crate) fn number_len(text: &[u8]) -> usize
     ensures value { result ≡ longest is_number text.now }
+    ensures greatest { IsLongest is_number text.now result }
     ensures within { result ≤ length text.now }
 {
     match text {
@@ -155,6 +157,7 @@ fn wide_quoted_len(text: &[u8], quote: u8) -> usize
 
 pub(crate) fn char_constant_len(text: &[u8]) -> usize
     ensures value { result ≡ longest is_char_constant text.now }
+    ensures greatest { IsLongest is_char_constant text.now result }
     ensures within { result ≤ length text.now }
 {
     wide_quoted_len(text, b'\'')
@@ -162,6 +165,7 @@ pub(crate) fn char_constant_len(text: &[u8]) -> usize
 
 pub(crate) fn string_literal_len(text: &[u8]) -> usize
     ensures value { result ≡ longest is_string_literal text.now }
+    ensures greatest { IsLongest is_string_literal text.now result }
     ensures within { result ≤ length text.now }
 {
     wide_quoted_len(text, b'"')
@@ -179,6 +183,7 @@ fn enclosed_len(text: &[u8], closing: u8) -> usize
 
 pub(crate) fn header_name_len(text: &[u8]) -> usize
     ensures value { result ≡ longest is_header_name text.now }
+    ensures greatest { IsLongest is_header_name text.now result }
     ensures within { result ≤ length text.now }
 {
     match text {

@@ -3,7 +3,7 @@
 ghost use Rattle.std.specs.Prelude.{◌≡◌, ◌≤◌, length, [], ◌∷◌};
 ghost use Rattle.std.specs.List.{list_any};
 ghost use Rattle.std.specs.Str.{bytes_eq};
-ghost use Rattle.hv_lexer.specs.Lengths.{begins_with_punctuator};
+ghost use Rattle.hv_lexer.specs.Lengths.{IsLongest, begins_with_punctuator};
 ghost use Rattle.hv_toks.specs.Lexical.{longest, is_punctuator};
 
 /// The punctuators of two bytes.
@@ -93,6 +93,7 @@ fn begins_with_triple(text: &[u8]) -> bool
 /// The length of the longest punctuator at the front, 0 where there is none.
 pub(crate) fn punctuator_len(text: &[u8]) -> usize
     ensures value { result ≡ longest is_punctuator text.now }
+    ensures greatest { IsLongest is_punctuator text.now result }
     ensures within { result ≤ length text.now }
 {
     if begins_with_triple(text) {

@@ -1,7 +1,8 @@
 use Rattle.std.proofs.Common.{sym, ap, ◌∙◌, arith}
 use Rattle.std.proofs.lemmas.List.{take_rest}
 use Rattle.hv_lexer.specs.Lengths.{one_more}
-use Rattle.hv_lexer.proofs.Longest.{number-dot, number-digits}
+use Rattle.hv_toks.specs.Lexical.{is_number}
+use Rattle.hv_lexer.proofs.Longest.{longest-from, number-dot, number-digits}
 use Rattle.hv_lexer.proofs.category.number_len.Goals as goal
 
 pub returns-in-len1-up-clause-value : goal.returns-in-len1-up-clause-value
@@ -10,3 +11,9 @@ returns-in-len1-up-clause-value c =
 
 pub returns-in_default-clause-value : goal.returns-in_default-clause-value
 returns-in_default-clause-value c = c.digits_len-in_default.ensures.value ∙ sym (number-digits c.args.text.now c.if-first-eq46.false)
+
+pub returns-in-len1-up-clause-greatest : goal.returns-in-len1-up-clause-greatest
+returns-in-len1-up-clause-greatest c = longest-from is_number c.args.text.now _ (returns-in-len1-up-clause-value c)
+
+pub returns-in_default-clause-greatest : goal.returns-in_default-clause-greatest
+returns-in_default-clause-greatest c = longest-from is_number c.args.text.now _ (returns-in_default-clause-value c)
