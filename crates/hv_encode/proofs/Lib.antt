@@ -1,0 +1,4 @@
+mod Lists
+mod Semantics
+mod Tokens
+mod Product
