@@ -2,3 +2,5 @@ mod Lists
 mod Semantics
 mod Tokens
 mod Product
+mod Sources
+mod Encoded
