@@ -4,3 +4,6 @@ mod Tokens
 mod Product
 mod Sources
 mod Encoded
+mod Reading
+mod NestedLines
+mod Printed

@@ -1,7 +1,7 @@
 -- The metaproduct of a body: each statement is tested by the literals of the groups that are open at it.
-use Rattle.std.specs.Prelude.{ℕ, Bool, true, false, cond, not, ◌&&◌, ◌==◌, List, [], ◌∷◌, ◌++◌}
+use Rattle.std.specs.Prelude.{ℕ, ◌≡◌, ◌<◌, length, codes, Bool, true, false, cond, not, ◌&&◌, ◌==◌, List, [], ◌∷◌, ◌++◌}
 use Rattle.std.specs.List.{list_any}
-use Rattle.hv_plain.specs.Program.{Literal, Statement, Program}
+use Rattle.hv_plain.specs.Program.{Literal, Statement, Program, shown, test_tokens}
 use Rattle.hv_plain.specs.Run.{variable_of, variables_of}
 use Rattle.hv_encode.specs.declared.line.Line.{Line}
 use Rattle.hv_encode.specs.declared.line.Line.TheVariants.{Put, IfDefined, IfNotDefined, Else, EndIf}
@@ -53,3 +53,20 @@ lifted names groups (line ∷ lines) = statement_of names groups line ++ lifted 
 
 abbrev pub product_of : List (List ℕ) → List Line → Program
 product_of names lines = record { variables = variables_of names; statements = lifted names [] lines }
+
+abbrev pub HasOption : List (List ℕ) → Group → Type 0
+HasOption names group = group.option < length names
+
+abbrev pub is_tested : List Literal → Bool
+is_tested [] = false
+is_tested (_ ∷ _) = true
+
+-- the tokens of a test up to its closing parenthesis
+abbrev pub opening_tokens : List Literal → List (List ℕ)
+opening_tokens [] = []
+opening_tokens (literal ∷ more) = codes "if" ∷ codes "(" ∷ test_tokens (literal ∷ more)
+
+-- behind the text that stood before, this much of a test is written
+pub record IsBegun (before : List ℕ) (test : List Literal) (text : List ℕ) (tested : Bool) : Type 0 where
+  pub is_written : text ≡ before ++ shown (opening_tokens test)
+  pub is_told : tested ≡ is_tested test

@@ -3,6 +3,9 @@
 
 mod lift;
 mod line;
+mod nesting;
+mod print;
 mod small;
+mod trim;
 
 pub use small::encode_small;
