@@ -1,16 +1,17 @@
 -- The text of each part of a program, as it is written.
-use Rattle.std.proofs.Common.{◌≡◌, ℕ, ◌+◌, ◌<◌, ◌≤◌, ◌%◌, ◌^◌, Bool, true, false, not, ◌&&◌, ◌||◌, ◌==◌, List, [], ◌∷◌, ◌++◌, map, reverse, cond, refl, sym, ◌∙◌, ap, arith, length, get_or, take, drop, codes, decimal, Result, Ok, Err, OnOk}
-use Rattle.std.specs.List.{flat_map, list_all}
+use Rattle.std.proofs.Common.{◌≡◌, ℕ, ◌+◌, ◌<◌, ◌≤◌, ◌%◌, ◌^◌, Bool, true, false, not, ◌&&◌, ◌||◌, ◌==◌, List, [], ◌∷◌, ◌++◌, map, reverse, cond, refl, sym, ◌∙◌, ap, arith, length, get_or, take, drop, codes, decimal, Result, Ok, Err, OnOk, Some, slice_get, zero, suc}
+use Rattle.std.specs.List.{flat_map, list_all, list_any}
 use Rattle.std.proofs.lemmas.Bool.Decides.{nat_tests}
 use Rattle.std.proofs.lemmas.Fmt.{decimal_by_steps}
 use Rattle.std.proofs.lemmas.Grind.{flat_map-append}
-use Rattle.std.proofs.lemmas.List.{append_assoc, append-nil}
+use Rattle.std.proofs.lemmas.List.{append_assoc, append-nil, take_more, take_all, drop_more, at_drop_all, map-append}
 use Rattle.hv_plain.specs.Name.{is_digit}
 use Rattle.hv_plain.specs.Program.{Literal, Statement, Program, shown, shown_token, ends_a_line, literal_tokens, test_tokens, call_tokens, guarded_tokens, statement_tokens, declaration_tokens, head_tokens, program_tokens}
 use Rattle.hv_plain.specs.Run.{variable_of, variables_of}
+use Rattle.hv_encode.specs.declared.line.Line.{Line}
 use Rattle.hv_encode.specs.declared.lift.Group.{Group}
-use Rattle.hv_encode.specs.Lift.{IsBegun, is_tested, opening_tokens, part_of_test, literal_of, test_in}
-use Rattle.hv_encode.proofs.Lists.{list_all-append, and_both, and_parts, reverse-front}
+use Rattle.hv_encode.specs.Lift.{IsBegun, is_tested, opening_tokens, part_of_test, literal_of, test_in, has_literal, opened, after, statement_of, lifted, product_of}
+use Rattle.hv_encode.proofs.Lists.{list_all-append, and_both, and_parts, reverse-front, list_any-reverse}
 
 -- three writes in a row are one
 pub wrote_three : {T E : Type 0} (r : Result T E) (t0 t1 t2 t3 a b c x : List ℕ) → t1 ≡ t0 ++ a → t2 ≡ t1 ++ b → OnOk r (t3 ≡ t2 ++ c) → a ++ (b ++ c) ≡ x → OnOk r (t3 ≡ t0 ++ x)
@@ -101,6 +102,68 @@ statement_written (Ok v) before test byte t0 t1 t2 tested begun p q =
     ∙ ap (λ told. before ++ (shown (opening_tokens test) ++ (cond told (codes ") ") [] ++ S))) begun.is_told
     ∙ ap (λ t. before ++ t) (statement_text test byte ∙ ap shown (sym (append-nil (statement_tokens (record { test = test; byte = byte })))))
 
+pub begun_part : (before : List ℕ) (test : List Literal) (literal : Literal) (text : List ℕ) (repeated : Bool) → repeated ≡ false
+    → IsBegun before (test ++ literal ∷ []) text true → IsBegun before (test ++ cond repeated [] (literal ∷ [])) text true
+begun_part before test literal text repeated e begun = rw e begun
+
+pub name_is : (names : List (List ℕ)) (option : ℕ) (name : List ℕ) → slice_get names option ≡ Some name → name ≡ get_or names option []
+name_is [] option name e = cc
+name_is (first ∷ names) zero name e = cc
+name_is (first ∷ names) (suc option) name e = name_is names option name e
+
+pub flat_map_next : {X A : Type 0} (f : X → List A) (xs : List X) (i : ℕ) (d : X) → i < length xs → flat_map f (take (i + 1) xs) ≡ flat_map f (take i xs) ++ f (get_or xs i d)
+flat_map_next f xs i d within =
+    ap (flat_map f) (take_more xs i d within) ∙ flat_map-append f (take i xs) (get_or xs i d ∷ []) ∙ ap (λ t. flat_map f (take i xs) ++ t) (append-nil (f (get_or xs i d)))
+
+-- the text that statements are written as
+abbrev pub statements_text : List Statement → List ℕ
+statements_text statements = shown (flat_map statement_tokens statements)
+
+pub statements_text-append : (xs ys : List Statement) → statements_text (xs ++ ys) ≡ statements_text xs ++ statements_text ys
+statements_text-append xs ys = ap shown (flat_map-append statement_tokens xs ys) ∙ shown-append (flat_map statement_tokens xs) (flat_map statement_tokens ys)
+
+pub declared_next : (names : List (List ℕ)) (i : ℕ) (name before t0 t1 : List ℕ) → i < length names → name ≡ get_or names i []
+    → t0 ≡ before ++ shown (flat_map declaration_tokens (variables_of (take i names))) → t1 ≡ t0 ++ shown (declaration_tokens (variable_of name))
+    → t1 ≡ before ++ shown (flat_map declaration_tokens (variables_of (take (i + 1) names)))
+declared_next names i name before t0 t1 within is p q =
+    let F = λ (variables : List (List ℕ)). flat_map declaration_tokens variables in
+    let old = F (variables_of (take i names)) in
+    let new = declaration_tokens (variable_of (get_or names i [])) in
+    let next : F (variables_of (take (i + 1) names)) ≡ old ++ new =
+        ap (λ ns. F (variables_of ns)) (take_more names i [] within) ∙ ap F (map-append variable_of (take i names) (get_or names i [] ∷ []))
+        ∙ flat_map-append declaration_tokens (variables_of (take i names)) (variable_of (get_or names i []) ∷ []) ∙ ap (λ t. old ++ t) (append-nil new) in
+    q ∙ ap (λ t. t ++ shown (declaration_tokens (variable_of name))) p ∙ ap (λ n. (before ++ shown old) ++ shown (declaration_tokens (variable_of n))) is
+    ∙ append_assoc before (shown old) (shown new) ∙ ap (λ t. before ++ t) (sym (shown-append old new) ∙ ap shown (sym next))
+
+pub declared_all : (names : List (List ℕ)) (i : ℕ) (before text : List ℕ) → length names ≤ i → text ≡ before ++ shown (flat_map declaration_tokens (variables_of (take i names)))
+    → text ≡ before ++ shown (flat_map declaration_tokens (variables_of names))
+declared_all names i before text past e = e ∙ ap (λ ns. before ++ shown (flat_map declaration_tokens (variables_of ns))) (take_all i names past)
+
+pub opened_is : (groups : List Group) (option : ℕ) (negated repeated : Bool) → repeated ≡ list_any (has_literal option negated) groups
+    → ◌≡◌ {A = Group} (record { option = option; negated = negated; repeated = repeated }) (opened (reverse groups) option negated)
+opened_is groups option negated repeated e =
+    let G : Bool → Group = λ told. record { option = option; negated = negated; repeated = told } in
+    ap G (e ∙ sym (list_any-reverse (has_literal option negated) groups))
+
+module _ (names : List (List ℕ)) (lines : List Line) (i : ℕ) (groups : List Group) (start text : List ℕ)
+    (so_far : start ++ statements_text (lifted names [] lines) ≡ text ++ statements_text (lifted names (reverse groups) (drop i lines))) where
+  pub statements_step : (default : Line) (behind : List Group) (text' : List ℕ) → i < length lines
+      → text' ≡ text ++ statements_text (statement_of names (reverse groups) (get_or lines i default)) → reverse behind ≡ after (get_or lines i default) (reverse groups)
+      → start ++ statements_text (lifted names [] lines) ≡ text' ++ statements_text (lifted names (reverse behind) (drop (i + 1) lines))
+  statements_step default behind text' within written passed =
+      let line = get_or lines i default in
+      let here = statement_of names (reverse groups) line in
+      let rest = drop (i + 1) lines in
+      so_far ∙ ap (λ more. text ++ statements_text (lifted names (reverse groups) more)) (drop_more lines i default within)
+      ∙ ap (λ t. text ++ t) (statements_text-append here (lifted names (after line (reverse groups)) rest))
+      ∙ sym (append_assoc text (statements_text here) (statements_text (lifted names (after line (reverse groups)) rest)))
+      ∙ ap (λ t. t ++ statements_text (lifted names (after line (reverse groups)) rest)) (sym written)
+      ∙ ap (λ gs. text' ++ statements_text (lifted names gs rest)) (sym passed)
+
+  pub statements_end : length lines ≤ i → text ≡ start ++ statements_text (lifted names [] lines)
+  statements_end past =
+      sym (append-nil text) ∙ sym (so_far ∙ at_drop_all (λ more. text ++ statements_text (lifted names (reverse groups) more)) lines i past)
+
 module _ (names : List (List ℕ)) where
   test-append : (groups : List Group) (group : Group) → test_in names (groups ++ group ∷ []) ≡ part_of_test names group ++ test_in names groups
   test-append [] group = sym (append-nil (part_of_test names group))
@@ -112,3 +175,22 @@ module _ (names : List (List ℕ)) where
   test-reverse [] = refl
   test-reverse (group ∷ groups) =
       ap (test_in names) (reverse-front group groups) ∙ test-append (reverse groups) group ∙ ap (λ t. part_of_test names group ++ t) (test-reverse groups)
+
+  pub statement-all : {T E : Type 0} (r : Result T E) (before text : List ℕ) (groups : List Group) (i byte : ℕ) → length groups ≤ i
+      → OnOk r (text ≡ before ++ statements_text (record { test = flat_map (part_of_test names) (take i groups); byte = byte } ∷ []))
+      → OnOk r (text ≡ before ++ statements_text (record { test = test_in names (reverse groups); byte = byte } ∷ []))
+  statement-all (Err e) before text groups i byte past h = tt
+  statement-all (Ok v) before text groups i byte past h =
+      let S : List Literal → Statement = λ test. record { test = test; byte = byte } in
+      h ∙ ap (λ test. before ++ statements_text (S test ∷ [])) (ap (flat_map (part_of_test names)) (take_all i groups past) ∙ sym (test-reverse groups))
+
+  -- the parts of the printed metaproduct, one behind the other
+  pub product_text : (lines : List Line) (t1 t2 t3 t4 : List ℕ) → t1 ≡ [] ++ shown (flat_map declaration_tokens (variables_of names))
+      → t2 ≡ t1 ++ codes "int putchar ( int ) ;\nint main ( void ) {\n" → t3 ≡ t2 ++ statements_text (lifted names [] lines) → t4 ≡ t3 ++ codes "}\n"
+      → t4 ≡ shown (program_tokens (product_of names lines))
+  product_text lines t1 t2 t3 t4 p q r s =
+      let D = flat_map declaration_tokens (variables_of names) in
+      let S = flat_map statement_tokens (lifted names [] lines) in
+      s ∙ ap (λ t. t ++ codes "}\n") (r ∙ ap (λ t. t ++ shown S) (q ∙ ap (λ t. t ++ shown head_tokens) p))
+      ∙ sym (shown-append (D ++ head_tokens ++ S) (codes "}" ∷ [])
+          ∙ ap (λ t. t ++ codes "}\n") (shown-append (D ++ head_tokens) S ∙ ap (λ t. t ++ shown S) (shown-append D head_tokens)))

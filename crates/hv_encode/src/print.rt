@@ -80,18 +80,15 @@ fn write_statement(text: &mut Text, model: &Model, groups: &[Group], byte: u8) -
     write_call(text, byte)
 }
 
-/// Writes what the line in these groups becomes, and makes the groups those behind it.
-fn write_line(text: &mut Text, model: &Model, groups: &mut Vec<Group>, line: Line) -> Result<(), Memory>
-    requires known { IsKnown model.now line }
-    requires options { All (HasOption model.now) groups.old.items }
-    ensures text { OnOk result (text.new ≡ text.old ++ shown (flat_map statement_tokens (statement_of model.now (reverse groups.old.items) line))) }
-    ensures after { OnOk result (reverse groups.new.items ≡ after line (reverse groups.old.items)) }
-    ensures options { OnOk result (All (HasOption model.now) groups.new.items) }
+/// Writes what the line becomes in these groups, of which the outermost comes first.
+fn write_line(text: &mut Text, model: &Model, groups: &[Group], line: Line) -> Result<(), Memory>
+    requires { All (HasOption model.now) groups.now }
+    ensures { OnOk result (text.new ≡ text.old ++ shown (flat_map statement_tokens (statement_of model.now (reverse groups.now) line))) }
 {
-    if let Line::Put(byte) = line {
-        write_statement(text, model, groups.as_slice(), byte)?;
+    match line {
+        Line::Put(byte) => write_statement(text, model, groups, byte),
+        _ => Ok(()),
     }
-    pass(groups, line)
 }
 
 /// Writes the statements of a body.
@@ -101,7 +98,8 @@ fn write_statements(alloc: Global, text: &mut Text, model: &Model, lines: &[Line
 {
     let mut groups = Vec::new(alloc);
     for line in lines {
-        write_line(text, model, &mut groups, *line)?;
+        write_line(text, model, groups.as_slice(), *line)?;
+        pass(&mut groups, *line)?;
     }
     Ok(())
 }
