@@ -7,3 +7,4 @@ mod Encoded
 mod Reading
 mod NestedLines
 mod Printed
+mod Bodies

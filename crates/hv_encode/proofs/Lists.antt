@@ -52,3 +52,6 @@ list_any-reverse p (x ∷ xs) =
 pub list_all-flat_map : {X Y : Type 0} (p : Y → Bool) (f : X → List Y) (xs : List X) → AllByRecursion (λ x. list_all p (f x) ≡ true) xs → list_all p (flat_map f xs) ≡ true
 list_all-flat_map p f [] h = refl
 list_all-flat_map p f (x ∷ xs) h = list_all-append p (f x) (flat_map f xs) ∙ and_both _ _ h.0 (list_all-flat_map p f xs h.1)
+
+pub heads : {X : Type 0} (x y : X) (xs ys : List X) → x ∷ xs ≡ y ∷ ys → (x ≡ y) × (xs ≡ ys)
+heads x y xs ys e = ((cc), (cc))

@@ -7,10 +7,11 @@ use Rattle.std.proofs.lemmas.List.Elements.{recursion_from_All}
 use Rattle.std.proofs.lemmas.Bool.Decides.{Decides-eqb}
 use Rattle.std.specs.Fmt.{decimal}
 use Rattle.hv_plain.specs.Bytes.{is_newline, trimmed}
+use Rattle.hv_encode.proofs.Lists.{heads}
 use Rattle.hv_plain.specs.Source.{Line, put, if_defined, if_not_defined, otherwise, end_if, spelled, IsLine, IsSmallSource, source_lines}
 
 -- texts that differ at a place are two
-differ_at : {P : Type 0} (k : ℕ) (s t : List ℕ) → s ≡ t → eqb (get_or s k 0) (get_or t k 0) ≡ false → P
+pub differ_at : {P : Type 0} (k : ℕ) (s t : List ℕ) → s ≡ t → eqb (get_or s k 0) (get_or t k 0) ≡ false → P
 differ_at k s t e apart =
     let same : eqb (get_or t k 0) (get_or t k 0) ≡ true = (Decides-eqb (get_or t k 0) (get_or t k 0)).1 refl in
     let other : eqb (get_or t k 0) (get_or t k 0) ≡ false = ap (λ (text : List ℕ). eqb (get_or text k 0) (get_or t k 0)) (sym e) ∙ apart in
@@ -46,9 +47,6 @@ module _ (options : List (List ℕ)) where
   spelled-injective end_if (if_not_defined b) p q e = differ_at 1 (spelled end_if) (spelled (if_not_defined b)) e refl
   spelled-injective end_if otherwise p q e = differ_at 2 (spelled end_if) (spelled otherwise) e refl
   spelled-injective end_if end_if p q e = refl
-
-  heads : {X : Type 0} (x y : X) (xs ys : List X) → x ∷ xs ≡ y ∷ ys → (x ≡ y) × (xs ≡ ys)
-  heads x y xs ys e = ((cc), (cc))
 
   map_spelled-injective : (xs ys : List Line) → AllByRecursion (IsLine options) xs → AllByRecursion (IsLine options) ys → map spelled xs ≡ map spelled ys → xs ≡ ys
   map_spelled-injective [] [] p q e = refl

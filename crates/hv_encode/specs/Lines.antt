@@ -1,8 +1,8 @@
 -- Lines as the code holds them, where options go by their numbers.
-use Rattle.std.specs.Prelude.{ℕ, ◌≡◌, ◌<◌, List, [], ◌∷◌, ◌++◌, length, map, codes, Some}
-use Rattle.std.specs.List.{slice_index_or, position}
+use Rattle.std.specs.Prelude.{ℕ, ◌≡◌, ◌<◌, List, [], ◌∷◌, ◌++◌, length, map, Some}
+use Rattle.std.specs.List.{slice_index_or, position, slice_split}
 use Rattle.std.specs.Str.{bytes_eq}
-use Rattle.hv_plain.specs.Bytes.{trimmed}
+use Rattle.hv_plain.specs.Bytes.{trimmed, is_newline}
 use Rattle.hv_plain.specs.Source as source
 use Rattle.hv_encode.specs.declared.line.Line.{Line}
 use Rattle.hv_encode.specs.declared.line.Line.TheVariants.{Put, IfDefined, IfNotDefined, Else, EndIf}
@@ -32,9 +32,8 @@ IsKnown names (IfNotDefined option) = IsOption names option
 IsKnown names Else = Unit {0}
 IsKnown names EndIf = Unit {0}
 
--- the parts of a source between its newlines are the two lines at the head, lines that are `body` without
--- blanks at their ends, the closing line and an empty rest
-pub record IsFramed (parts : List (List ℕ)) (body : List (List ℕ)) : Type 0 where
+-- each of these lines, blanks at its ends aside, is ended by a newline, and no byte follows
+pub record IsCutInto (text : List ℕ) (lines : List (List ℕ)) : Type 0 where
   pub texts : List (List ℕ)
-  pub cut : parts ≡ texts ++ [] ∷ []
-  pub lines : map trimmed texts ≡ codes "int putchar(int);" ∷ codes "int main(void) {" ∷ (body ++ codes "}" ∷ [])
+  pub cut : slice_split is_newline text ≡ texts ++ [] ∷ []
+  pub is_trimmed : map trimmed texts ≡ lines

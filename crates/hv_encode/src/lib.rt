@@ -1,6 +1,7 @@
 //! The whole way from a source to its metaproduct.
 #![tactic(auto)]
 
+mod body;
 mod lift;
 mod line;
 mod nesting;
