@@ -1,8 +1,8 @@
 -- Reading a body, line by line.
-use Rattle.std.proofs.Common.{◌≡◌, ◌≢◌, ℕ, ◌+◌, ◌<◌, ◌≤◌, Bool, true, false, List, [], ◌∷◌, ◌++◌, map, cond, nat_lt, refl, sym, ◌∙◌, ap, arith, length, get_or, take, drop, codes, Some, None, Option, IfSome, IfNone, subst, ◌-◌}
+use Rattle.std.proofs.Common.{◌≡◌, ◌≢◌, ℕ, ◌+◌, ◌<◌, ◌≤◌, Bool, true, false, List, [], ◌∷◌, ◌++◌, map, cond, nat_lt, refl, sym, ◌∙◌, ap, arith, length, get_or, take, drop, codes, Some, None, Option, IfSome, IfNone, subst, ◌-◌, ◌==◌}
 use Rattle.std.specs.List.{All, slice_split, position, position_or_len, join_with_byte, before_first, after_first}
 use Rattle.std.proofs.lemmas.Bool.Decides.{nat_tests, Decides-eqb}
-use Rattle.std.proofs.lemmas.List.{append_assoc, map-append, take_rest, drop_more, take-append-drop, length-take, length-drop, get_or-take}
+use Rattle.std.proofs.lemmas.List.{nil_from_length, append_assoc, map-append, take_rest, drop_more, take-append-drop, length-take, length-drop, get_or-take}
 use Rattle.std.proofs.lemmas.List.Quantifiers.{position-Some}
 use Rattle.std.proofs.lemmas.List.Elements.{All-from_get_or, All-push, All-nil, All-head, All-tail}
 use Rattle.std.proofs.lemmas.List.Splits.{slice_split_at, slice_split_none, join_with_byte-slice_split}
@@ -31,6 +31,14 @@ pub if_none : {T : Type 0} (r : Option T) (P : Type 0) → P → IfNone r P
 if_none None P h = h
 if_none (Some x) P h = tt
 
+pub empty_is : (text : List ℕ) (empty : Bool) → empty ≡ (length text == 0) → empty ≡ true → text ≡ []
+empty_is text empty e t = nil_from_length text ((Decides-eqb (length text) 0).0 (sym e ∙ t))
+
+pub some_is : (text : List ℕ) (empty : Bool) → empty ≡ (length text == 0) → empty ≡ false → text ≢ []
+some_is text empty e f none =
+    let yes : (length text == 0) ≡ true = ap (λ t. length t == 0) none in
+    let wrong : true ≡ false = sym yes ∙ sym e ∙ f in cc
+
 pub cut_at : (text : List ℕ) (end : ℕ) → Some end ≡ position is_newline text
     → (slice_split is_newline text ≡ take end text ∷ slice_split is_newline (take (length text - (end + 1)) (drop (end + 1) text)))
       × (length (take (length text - (end + 1)) (drop (end + 1) text)) < length text)
@@ -40,7 +48,8 @@ cut_at text end e =
     let within : end < length text = is.0 in
     let first : All (λ byte. is_newline byte ≡ false) (take end text) =
         All-from_get_or (λ byte. is_newline byte ≡ false) (take end text) 0 (λ k h.
-            let below : k < end = simp length-take at h in
+            let short = length-take end text in
+            let below : k < end = omega arith in
             rw (get_or-take end text k 0 (omega arith)) (is.2 k (omega arith))) in
     let whole : text ≡ take end text ++ get_or text end 0 ∷ drop (end + 1) text = sym (take-append-drop end text) ∙ ap (λ t. take end text ++ t) (drop_more text end 0 within) in
     let cut = ap (slice_split is_newline) whole ∙ slice_split_at is_newline (take end text) (get_or text end 0) (drop (end + 1) text) first is.1 in

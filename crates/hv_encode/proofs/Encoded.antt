@@ -66,13 +66,14 @@ module _ (names : List (List ℕ)) (named : AllOptionNames names) where
       (λ byte groups small marked options. record { byte = small; test = recursion_from_All IsGapless (test_in names groups) (test-all names IsGapless (λ group is. variable_has_none (name_at names group.option) (name_named group.option is)) groups options) })
       [] lines tt tt known
 
-  reads : (lines : List Line) → AllByRecursion (IsKnown names) lines → (text : List ℕ) → text ≡ shown (program_tokens (product_of names lines))
+  pub reads : (lines : List Line) → AllByRecursion (IsKnown names) lines → (text : List ℕ) → text ≡ shown (program_tokens (product_of names lines))
       → IsProgramText (variables_of names) text (product_of names lines)
   reads lines known text printed = record {
     tokens = ap (slice_split is_gap) printed ∙ split-shown (program_tokens (product_of names lines)) (program_has_none (product_of names lines) gapless_variables (gapless_statements lines known));
     typed = typed lines known
     }
 
+module _ (names : List (List ℕ)) where
   runs : (lines : List Line) (bytes : List ℕ) → IsSmallSource names bytes (map (plain names) lines) → RunsAsVariants names bytes (product_of names lines)
   runs lines bytes small = record { agrees = λ values valid variant is input steps defined.
       let body = body-unique names bytes is.body (map (plain names) lines) is.reads small in
@@ -90,17 +91,16 @@ module _ (names : List (List ℕ)) (named : AllOptionNames names) where
 
   -- the printed metaproduct of the lines encodes a source of them
   pub encodes-product : (lines : List Line) → All (IsKnown names) lines → (bytes text : List ℕ) → IsSmallSource names bytes (map (plain names) lines)
-      → text ≡ shown (program_tokens (product_of names lines)) → Encodes names bytes text
-  encodes-product lines known bytes text small printed =
-      let each = recursion_from_All (IsKnown names) lines known in
+      → IsProgramText (variables_of names) text (product_of names lines) → text ≡ shown (program_tokens (product_of names lines)) → Encodes names bytes text
+  encodes-product lines known bytes text small is_read printed =
       record {
         product = product_of names lines;
-        reads = reads lines each text printed;
+        reads = is_read;
         runs = runs lines bytes small;
         printed = printed;
         variables = refl;
-        size = λ body is. 
+        size = λ body is.
             let same = lifted-size names lines ∙ ap (count_by is_put) (body-unique names bytes (map (plain names) lines) body small is) in
             omega arith;
-        concise = concise lines each
+        concise = concise lines (recursion_from_All (IsKnown names) lines known)
       }

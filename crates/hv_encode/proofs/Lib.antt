@@ -8,3 +8,4 @@ mod Reading
 mod NestedLines
 mod Printed
 mod Bodies
+mod SmallSources

@@ -38,13 +38,13 @@ not_parsed n text small e h =
 pub decimal_is_text : (n : ℕ) (text : List ℕ) → n < 256 → text ≡ decimal n → IsUtf8 text
 decimal_is_text n text small e = let P : List ℕ → Type 0 = λ t. IsUtf8 t in rw e (IsUtf8-from_ascii (decimal n) (IsAscii-decimal n (omega arith)))
 
-found : (names : List (List ℕ)) (name : List ℕ) (option : ℕ) → Some option ≡ position (bytes_eq name) names → IsOption names option × (name ≡ name_at names option)
+pub found : (names : List (List ℕ)) (name : List ℕ) (option : ℕ) → Some option ≡ position (bytes_eq name) names → IsOption names option × (name ≡ name_at names option)
 found names name option e =
     let is = position-Some (bytes_eq name) names option [] (sym e) in
     let same : name ≡ name_at names option = (bytes_eq-Decides name (name_at names option)).0 is.1 in
     (record { within = is.0; first = ap (λ n. position (bytes_eq n) names) (sym same) ∙ sym e }, same)
 
-passed : (n m : ℕ) → None ≡ cond (nat_lt n m) (Some n) None → m ≤ n
+pub passed : (n m : ℕ) → None ≡ cond (nat_lt n m) (Some n) None → m ≤ n
 passed n m e = grind (arith, nat_tests)
 
 pub not_found : (names : List (List ℕ)) (name : List ℕ) → None ≡ position (bytes_eq name) names → Contains names name → ⊥

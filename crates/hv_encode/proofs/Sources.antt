@@ -48,7 +48,7 @@ module _ (options : List (List ℕ)) where
   spelled-injective end_if otherwise p q e = differ_at 2 (spelled end_if) (spelled otherwise) e refl
   spelled-injective end_if end_if p q e = refl
 
-  map_spelled-injective : (xs ys : List Line) → AllByRecursion (IsLine options) xs → AllByRecursion (IsLine options) ys → map spelled xs ≡ map spelled ys → xs ≡ ys
+  pub map_spelled-injective : (xs ys : List Line) → AllByRecursion (IsLine options) xs → AllByRecursion (IsLine options) ys → map spelled xs ≡ map spelled ys → xs ≡ ys
   map_spelled-injective [] [] p q e = refl
   map_spelled-injective [] (y ∷ ys) p q e = cc
   map_spelled-injective (x ∷ xs) [] p q e = cc

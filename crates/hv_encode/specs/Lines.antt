@@ -1,5 +1,5 @@
 -- Lines as the code holds them, where options go by their numbers.
-use Rattle.std.specs.Prelude.{ℕ, ◌≡◌, ◌<◌, List, [], ◌∷◌, ◌++◌, length, map, Some}
+use Rattle.std.specs.Prelude.{ℕ, ◌≡◌, ◌<◌, List, [], ◌∷◌, ◌++◌, length, map, codes, Some, Contains}
 use Rattle.std.specs.List.{slice_index_or, position, slice_split}
 use Rattle.std.specs.Str.{bytes_eq}
 use Rattle.hv_plain.specs.Bytes.{trimmed, is_newline}
@@ -37,3 +37,8 @@ pub record IsCutInto (text : List ℕ) (lines : List (List ℕ)) : Type 0 where
   pub texts : List (List ℕ)
   pub cut : slice_split is_newline text ≡ texts ++ [] ∷ []
   pub is_trimmed : map trimmed texts ≡ lines
+
+-- no option has the name of a function of small sources
+pub record IsFree (names : List (List ℕ)) : Type 0 where
+  pub main : ¬ (Contains names (codes "main"))
+  pub putchar : ¬ (Contains names (codes "putchar"))

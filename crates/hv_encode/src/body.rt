@@ -47,7 +47,10 @@ pub fn body_of(alloc: Global, model: &Model, text: &[u8]) -> Result<Option<Vec<L
     while let Some((line, behind)) = cut_line(rest) {
         let line = trimmed(line);
         if line == b"}".as_slice() {
-            return Ok(if behind.is_empty() { Some(lines) } else { None });
+            if behind.is_empty() {
+                return Ok(Some(lines));
+            }
+            return Ok(None);
         }
         let Some(line) = line_of(model, line) else {
             return Ok(None);

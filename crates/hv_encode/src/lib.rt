@@ -7,6 +7,7 @@ mod line;
 mod nesting;
 mod print;
 mod small;
+mod source;
 mod trim;
 
 pub use small::encode_small;

@@ -1,6 +1,7 @@
 ghost use Rattle.std.specs.Prelude.{◌≡◌, ◌<◌, ◌++◌, [], ◌∷◌, List, ℕ, length, IfOk, OnOk, cond, codes, reverse};
 ghost use Rattle.std.specs.List.{All, flat_map};
-ghost use Rattle.hv_plain.specs.Program.{Literal, Statement, shown, literal_tokens, statement_tokens, program_tokens, call_tokens, declaration_tokens};
+ghost use Rattle.hv_plain.specs.Name.{AllOptionNames};
+ghost use Rattle.hv_plain.specs.Program.{Literal, Statement, IsProgramText, shown, literal_tokens, statement_tokens, program_tokens, call_tokens, declaration_tokens};
 ghost use Rattle.hv_plain.specs.Run.{variable_of, variables_of};
 ghost use Rattle.hv_encode.specs.Lines.{IsKnown};
 ghost use Rattle.hv_encode.specs.Lift.{HasOption, IsBegun, after, literal_of, part_of_test, test_in, statement_of, lifted, product_of};
@@ -115,7 +116,8 @@ fn write_declaration(text: &mut Text, name: &str) -> Result<(), Memory>
 
 /// Writes the declarations of the variables of a model's options.
 fn write_declarations(text: &mut Text, model: &Model) -> Result<(), Memory>
-    ensures { OnOk result (text.new ≡ text.old ++ shown (flat_map declaration_tokens (variables_of model.now))) }
+    ensures text { OnOk result (text.new ≡ text.old ++ shown (flat_map declaration_tokens (variables_of model.now))) }
+    ensures names { AllOptionNames model.now }
 {
     for option in 0..model.options() {
         write_declaration(text, model.name(option))?;
@@ -126,7 +128,8 @@ fn write_declarations(text: &mut Text, model: &Model) -> Result<(), Memory>
 /// The metaproduct of a body, printed.
 pub fn print_product(alloc: Global, model: &Model, lines: &[Line]) -> Result<Text, Memory>
     requires { All (IsKnown model.now) lines.now }
-    ensures { IfOk result (λ text. text ≡ shown (program_tokens (product_of model.now lines.now))) }
+    ensures printed { IfOk result (λ text. text ≡ shown (program_tokens (product_of model.now lines.now))) }
+    ensures reads { IfOk result (λ text. IsProgramText (variables_of model.now) text (product_of model.now lines.now)) }
 {
     let mut text = Text::new(alloc);
     write_declarations(&mut text, model)?;
