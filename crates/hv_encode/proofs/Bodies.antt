@@ -1,12 +1,12 @@
 -- Reading a body, line by line.
-use Rattle.std.proofs.Common.{◌≡◌, ◌≢◌, ℕ, ◌+◌, ◌<◌, ◌≤◌, Bool, true, false, List, [], ◌∷◌, ◌++◌, map, cond, nat_lt, refl, sym, ◌∙◌, ap, arith, length, get_or, take, drop, codes, Some, None, Option, IfSome, IfNone, subst, ◌-◌, ◌==◌}
-use Rattle.std.specs.List.{All, slice_split, position, position_or_len, join_with_byte, before_first, after_first}
-use Rattle.std.proofs.lemmas.Bool.Decides.{nat_tests, Decides-eqb}
+use Rattle.std.proofs.Common.{◌≡◌, ◌≢◌, ℕ, ◌+◌, ◌<◌, Bool, true, false, List, [], ◌∷◌, ◌++◌, map, refl, sym, ◌∙◌, ap, arith, length, get_or, take, drop, codes, Some, None, Option, IfNone, subst, ◌-◌, ◌==◌}
+use Rattle.std.specs.List.{All, slice_split, position, position_or_len, join_with_byte}
+use Rattle.std.proofs.lemmas.Bool.Decides.{Decides-eqb}
 use Rattle.std.proofs.lemmas.List.{nil_from_length, append_assoc, map-append, take_rest, drop_more, take-append-drop, length-take, length-drop, get_or-take}
 use Rattle.std.proofs.lemmas.List.Quantifiers.{position-Some}
 use Rattle.std.proofs.lemmas.List.Elements.{All-from_get_or, All-push, All-nil, All-head, All-tail}
 use Rattle.std.proofs.lemmas.List.Splits.{slice_split_at, slice_split_none, join_with_byte-slice_split}
-use Rattle.std.proofs.lemmas.List.Sums.{fails_before_first, prefix_len-le-length}
+use Rattle.std.proofs.lemmas.List.Sums.{fails_before_first}
 use Rattle.hv_plain.specs.Bytes.{is_newline, trimmed}
 use Rattle.hv_plain.specs.Source as source
 use Rattle.hv_plain.specs.Source.{IsLine, spelled, put, if_defined, if_not_defined, otherwise, end_if}
@@ -41,16 +41,16 @@ some_is text empty e f none =
 
 pub cut_at : (text : List ℕ) (end : ℕ) → Some end ≡ position is_newline text
     → (slice_split is_newline text ≡ take end text ∷ slice_split is_newline (take (length text - (end + 1)) (drop (end + 1) text)))
-      × (length (take (length text - (end + 1)) (drop (end + 1) text)) < length text)
+    × (length (take (length text - (end + 1)) (drop (end + 1) text)) < length text)
 cut_at text end e =
     let is = position-Some is_newline text end 0 (sym e) in
     let rest = take_rest text (end + 1) in
     let within : end < length text = is.0 in
     let first : All (λ byte. is_newline byte ≡ false) (take end text) =
-        All-from_get_or (λ byte. is_newline byte ≡ false) (take end text) 0 (λ k h.
-            let short = length-take end text in
-            let below : k < end = omega arith in
-            rw (get_or-take end text k 0 (omega arith)) (is.2 k (omega arith))) in
+    All-from_get_or (λ byte. is_newline byte ≡ false) (take end text) 0 (λ k h.
+    let short = length-take end text in
+    let below : k < end = omega arith in
+    rw (get_or-take end text k 0 (omega arith)) (is.2 k (omega arith))) in
     let whole : text ≡ take end text ++ get_or text end 0 ∷ drop (end + 1) text = sym (take-append-drop end text) ∙ ap (λ t. take end text ++ t) (drop_more text end 0 within) in
     let cut = ap (slice_split is_newline) whole ∙ slice_split_at is_newline (take end text) (get_or text end 0) (drop (end + 1) text) first is.1 in
     let shorter : length (drop (end + 1) text) < length text = simp length-drop (omega arith) in
@@ -58,10 +58,10 @@ cut_at text end e =
 
 pub cut_onto : (text part rest : List ℕ) (lines : List (List ℕ)) → parts text ≡ part ∷ parts rest → IsCutInto rest lines → IsCutInto text (trimmed part ∷ lines)
 cut_onto text part rest lines e h = record {
-    texts = part ∷ h.texts;
-    cut = e ∙ ap (λ more. part ∷ more) h.cut;
-    is_trimmed = ap (λ more. trimmed part ∷ more) h.is_trimmed
-    }
+  texts = part ∷ h.texts;
+  cut = e ∙ ap (λ more. part ∷ more) h.cut;
+  is_trimmed = ap (λ more. trimmed part ∷ more) h.is_trimmed;
+}
 
 pub behind_onto : (text part rest line : List ℕ) (lines : List (List ℕ)) → slice_split is_newline text ≡ part ∷ slice_split is_newline rest → trimmed part ≡ line → IsCutInto rest lines → IsCutInto text (line ∷ lines)
 behind_onto text part rest line lines e t h =
@@ -131,17 +131,17 @@ module _ (names : List (List ℕ)) where
   pub read_next : (text rest part behind : List ℕ) (lines : List Line) (line : Line) → IsRead text rest lines → parts rest ≡ part ∷ parts behind → IsKnown names line
       → trimmed part ≡ spelled (plain names line) → IsRead text behind (lines ++ line ∷ [])
   read_next text rest part behind lines line read e known t = record {
-      known = All-push (IsKnown names) lines line read.known known;
-      onto = λ tail h.
-          let here : IsCutInto rest (spelled (plain names line) ∷ tail) = rw t at (cut_onto rest part behind tail e h) in
-          let all = read.onto (spelled (plain names line) ∷ tail) here in
-          let P : List (List ℕ) → Type 0 = λ lines. IsCutInto text lines in
-          subst P (sym (ap (λ l. map spelled l ++ tail) (map-append (plain names) lines (line ∷ [])) ∙ ap (λ l. l ++ tail) (map-append spelled (map (plain names) lines) (plain names line ∷ []))
-              ∙ append_assoc (map spelled (map (plain names) lines)) (spelled (plain names line) ∷ []) tail)) all;
-      kept = λ body each h.
-          let before = read.kept body each h in
-          next_kept part rest behind (plain names line) before.0 e t before.1 before.2
-      }
+    known = All-push (IsKnown names) lines line read.known known;
+    onto = λ tail h.
+        let here : IsCutInto rest (spelled (plain names line) ∷ tail) = rw t at (cut_onto rest part behind tail e h) in
+        let all = read.onto (spelled (plain names line) ∷ tail) here in
+        let P : List (List ℕ) → Type 0 = λ lines. IsCutInto text lines in
+        subst P (sym (ap (λ l. map spelled l ++ tail) (map-append (plain names) lines (line ∷ [])) ∙ ap (λ l. l ++ tail) (map-append spelled (map (plain names) lines) (plain names line ∷ []))
+        ∙ append_assoc (map spelled (map (plain names) lines)) (spelled (plain names line) ∷ []) tail)) all;
+    kept = λ body each h.
+        let before = read.kept body each h in
+        next_kept part rest behind (plain names line) before.0 e t before.1 before.2;
+  }
 
   pub read_end : (text rest part behind : List ℕ) (lines : List Line) → IsRead text rest lines → parts rest ≡ part ∷ parts behind → trimmed part ≡ codes "}" → behind ≡ []
       → IsCutInto text (map spelled (map (plain names) lines) ++ closing)

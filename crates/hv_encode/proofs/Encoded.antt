@@ -1,25 +1,24 @@
 -- The printed metaproduct of a source's body encodes the source.
-use Rattle.std.proofs.Common.{◌≡◌, ℕ, ◌+◌, ◌<◌, ◌≤◌, ◌≢◌, Bool, true, false, not, ◌==◌, List, [], ◌∷◌, ◌++◌, map, cond, refl, sym, ◌∙◌, ap, arith, length, codes, suc}
-use Rattle.std.specs.List.{list_all, All, AllByRecursion, AllPairs, Contains, count_by, filter, slice_split}
+use Rattle.std.proofs.Common.{◌≡◌, ℕ, ◌<◌, true, false, not, List, [], ◌∷◌, map, refl, sym, ◌∙◌, ap, arith, length, suc}
+use Rattle.std.specs.List.{All, AllByRecursion, Contains, count_by, filter, slice_split}
 use Rattle.std.proofs.lemmas.List.Sums.{length-filter}
 use Rattle.std.proofs.lemmas.List.{get_or-map, length-map}
 use Rattle.hv_plain.specs.Bytes.{is_gap}
-use Rattle.std.proofs.lemmas.List.Elements.{All-from_recursion, recursion_from_All, All-map, All-weaker, Contains-get_or, All-contains_itself, All-contains}
-use Rattle.hv_plain.specs.Config.{IsValid, is_on}
+use Rattle.std.proofs.lemmas.List.Elements.{All-from_recursion, recursion_from_All, All-map, All-weaker, Contains-get_or, All-contains_itself}
+use Rattle.hv_plain.specs.Config.{is_on}
 use Rattle.hv_plain.specs.Name.{is_option_name, AllOptionNames}
-use Rattle.hv_plain.specs.Source as source
 use Rattle.hv_plain.specs.Source.{IsSmallSource, kept, is_put}
-use Rattle.hv_plain.specs.Program.{Literal, Statement, Program, IsTyped, IsTypedStatement, IsProgramText, shown, program_tokens}
-use Rattle.hv_plain.specs.Run.{Run, ended, undefined, run, start, variable_of, variables_of, output_of, plain_statement, no_start, IsConcise, IsVariant, Encodes, RunsAsVariants, variant_of}
+use Rattle.hv_plain.specs.Program.{Program, IsTyped, IsTypedStatement, IsProgramText, shown, program_tokens}
+use Rattle.hv_plain.specs.Run.{Run, ended, start, variable_of, variables_of, output_of, plain_statement, no_start, IsConcise, Encodes, RunsAsVariants}
 use Rattle.hv_encode.specs.declared.line.Line.{Line}
 use Rattle.hv_encode.specs.declared.line.Line.TheVariants.{Put, IfDefined, IfNotDefined, Else, EndIf}
 use Rattle.hv_encode.specs.declared.lift.Group.{Group}
 use Rattle.hv_encode.specs.Lines.{name_at, plain, IsOption, IsKnown}
-use Rattle.hv_encode.specs.Lift.{literal_of, test_in, lifted, product_of, opened}
-use Rattle.hv_encode.proofs.Semantics.{IsMarked, output-lifted}
+use Rattle.hv_encode.specs.Lift.{test_in, lifted, product_of, opened}
+use Rattle.hv_encode.proofs.Semantics.{output-lifted}
 use Rattle.hv_encode.proofs.Sources.{body-unique}
 use Rattle.hv_encode.proofs.Tokens.{no_gap, IsGapless, IsGaplessStatement, variable_has_none, program_has_none, split-shown}
-use Rattle.hv_encode.proofs.Product.{AllOptions, lifted-all, test-all, test-concise}
+use Rattle.hv_encode.proofs.Product.{lifted-all, test-all, test-concise}
 
 output-plain : (value : List ℕ → ℕ) (bytes : List ℕ) → output_of value (map plain_statement bytes) ≡ bytes
 output-plain value [] = refl
@@ -53,9 +52,9 @@ module _ (names : List (List ℕ)) (named : AllOptionNames names) where
     variables = All-contains_itself (variables_of names);
     statements = All-from_recursion (IsTypedStatement (variables_of names)) (lifted names [] lines)
         (lifted-all names (IsTypedStatement (variables_of names))
-          (λ byte groups small marked options. record { byte = small; test = test-all names (λ literal. Contains (variables_of names) literal.variable) (λ group is. contains_variable group.option is) groups options })
-          [] lines tt tt known)
-    }
+        (λ byte groups small marked options. record { byte = small; test = test-all names (λ literal. Contains (variables_of names) literal.variable) (λ group is. contains_variable group.option is) groups options })
+        [] lines tt tt known);
+  }
 
   gapless_variables : AllByRecursion (λ variable. no_gap variable ≡ true) (variables_of names)
   gapless_variables = recursion_from_All (λ variable. no_gap variable ≡ true) (variables_of names)
@@ -70,20 +69,21 @@ module _ (names : List (List ℕ)) (named : AllOptionNames names) where
       → IsProgramText (variables_of names) text (product_of names lines)
   reads lines known text printed = record {
     tokens = ap (slice_split is_gap) printed ∙ split-shown (program_tokens (product_of names lines)) (program_has_none (product_of names lines) gapless_variables (gapless_statements lines known));
-    typed = typed lines known
-    }
+    typed = typed lines known;
+  }
 
 module _ (names : List (List ℕ)) where
   runs : (lines : List Line) (bytes : List ℕ) → IsSmallSource names bytes (map (plain names) lines) → RunsAsVariants names bytes (product_of names lines)
-  runs lines bytes small = record { agrees = λ values valid variant is input steps defined.
-      let body = body-unique names bytes is.body (map (plain names) lines) is.reads small in
-      let product : output_of (start names values) (lifted names [] lines) ≡ kept (is_on names values) [] (map (plain names) lines) = output-lifted names values [] lines tt in
-      let kept_bytes : kept (is_on names values) [] (map (plain names) lines) ≡ kept (is_on names values) [] is.body = ap (kept (is_on names values) []) (sym body) in
-      let plain_run : output_of no_start variant.statements ≡ kept (is_on names values) [] is.body =
-          ap (λ (p : Program). output_of no_start p.statements) is.is ∙ output-plain no_start (kept (is_on names values) [] is.body) in
-      let R : List ℕ → Run = λ output. record { output = output; taken = 0; ending = ended 0 } in
-      ap R (product ∙ kept_bytes ∙ sym plain_run)
-    }
+  runs lines bytes small = record {
+    agrees = λ values valid variant is input steps defined.
+        let body = body-unique names bytes is.body (map (plain names) lines) is.reads small in
+        let product : output_of (start names values) (lifted names [] lines) ≡ kept (is_on names values) [] (map (plain names) lines) = output-lifted names values [] lines tt in
+        let kept_bytes : kept (is_on names values) [] (map (plain names) lines) ≡ kept (is_on names values) [] is.body = ap (kept (is_on names values) []) (sym body) in
+        let plain_run : output_of no_start variant.statements ≡ kept (is_on names values) [] is.body =
+        ap (λ (p : Program). output_of no_start p.statements) is.is ∙ output-plain no_start (kept (is_on names values) [] is.body) in
+        let R : List ℕ → Run = λ output. record { output = output; taken = 0; ending = ended 0 } in
+        ap R (product ∙ kept_bytes ∙ sym plain_run);
+  }
 
   concise : (lines : List Line) → AllByRecursion (IsKnown names) lines → All IsConcise (lifted names [] lines)
   concise lines known = All-from_recursion IsConcise (lifted names [] lines)
@@ -102,5 +102,5 @@ module _ (names : List (List ℕ)) where
         size = λ body is.
             let same = lifted-size names lines ∙ ap (count_by is_put) (body-unique names bytes (map (plain names) lines) body small is) in
             omega arith;
-        concise = concise lines (recursion_from_All (IsKnown names) lines known)
+        concise = concise lines (recursion_from_All (IsKnown names) lines known);
       }

@@ -1,16 +1,16 @@
 -- The text of each part of a program, as it is written.
-use Rattle.std.proofs.Common.{◌≡◌, ℕ, ◌+◌, ◌<◌, ◌≤◌, ◌%◌, ◌^◌, Bool, true, false, not, ◌&&◌, ◌||◌, ◌==◌, List, [], ◌∷◌, ◌++◌, map, reverse, cond, refl, sym, ◌∙◌, ap, arith, length, get_or, take, drop, codes, decimal, Result, Ok, Err, OnOk, Some, slice_get, zero, suc}
+use Rattle.std.proofs.Common.{◌≡◌, ℕ, ◌+◌, ◌<◌, ◌≤◌, ◌%◌, ◌^◌, Bool, true, false, ◌&&◌, ◌||◌, ◌==◌, List, [], ◌∷◌, ◌++◌, reverse, cond, refl, sym, ◌∙◌, ap, arith, length, get_or, take, drop, codes, decimal, Result, Ok, Err, OnOk, Some, slice_get, zero, suc}
 use Rattle.std.specs.List.{flat_map, list_all, list_any}
 use Rattle.std.proofs.lemmas.Bool.Decides.{nat_tests}
 use Rattle.std.proofs.lemmas.Fmt.{decimal_by_steps}
 use Rattle.std.proofs.lemmas.Grind.{flat_map-append}
 use Rattle.std.proofs.lemmas.List.{append_assoc, append-nil, take_more, take_all, drop_more, at_drop_all, map-append}
 use Rattle.hv_plain.specs.Name.{is_digit}
-use Rattle.hv_plain.specs.Program.{Literal, Statement, Program, shown, shown_token, ends_a_line, literal_tokens, test_tokens, call_tokens, guarded_tokens, statement_tokens, declaration_tokens, head_tokens, program_tokens}
+use Rattle.hv_plain.specs.Program.{Literal, Statement, shown, shown_token, ends_a_line, literal_tokens, test_tokens, call_tokens, statement_tokens, declaration_tokens, head_tokens, program_tokens}
 use Rattle.hv_plain.specs.Run.{variable_of, variables_of}
 use Rattle.hv_encode.specs.declared.line.Line.{Line}
 use Rattle.hv_encode.specs.declared.lift.Group.{Group}
-use Rattle.hv_encode.specs.Lift.{IsBegun, is_tested, opening_tokens, part_of_test, literal_of, test_in, has_literal, opened, after, statement_of, lifted, product_of}
+use Rattle.hv_encode.specs.Lift.{IsBegun, is_tested, opening_tokens, part_of_test, test_in, has_literal, opened, after, statement_of, lifted, product_of}
 use Rattle.hv_encode.proofs.Lists.{list_all-append, and_both, and_parts, reverse-front, list_any-reverse}
 
 -- three writes in a row are one
@@ -76,14 +76,14 @@ tested_more (first ∷ test) literal = refl
 pub begun_more : (before : List ℕ) (test : List Literal) (literal : Literal) (t0 t1 t2 : List ℕ) (tested : Bool) → IsBegun before test t0 tested
     → t1 ≡ t0 ++ cond tested (codes "&& ") (codes "if ( ") → t2 ≡ t1 ++ shown (literal_tokens literal) → IsBegun before (test ++ literal ∷ []) t2 true
 begun_more before test literal t0 t1 t2 tested begun p q = record {
-    is_written =
-        let O = cond tested (codes "&& ") (codes "if ( ") in
-        let L = shown (literal_tokens literal) in
-        q ∙ ap (λ t. t ++ L) (p ∙ ap (λ t. t ++ O) begun.is_written) ∙ append_assoc (before ++ shown (opening_tokens test)) O L ∙ append_assoc before (shown (opening_tokens test)) (O ++ L)
-        ∙ ap (λ told. before ++ (shown (opening_tokens test) ++ (cond told (codes "&& ") (codes "if ( ") ++ L))) begun.is_told
-        ∙ ap (λ t. before ++ t) (opening_more test literal);
-    is_told = sym (tested_more test literal)
-    }
+  is_written =
+      let O = cond tested (codes "&& ") (codes "if ( ") in
+      let L = shown (literal_tokens literal) in
+      q ∙ ap (λ t. t ++ L) (p ∙ ap (λ t. t ++ O) begun.is_written) ∙ append_assoc (before ++ shown (opening_tokens test)) O L ∙ append_assoc before (shown (opening_tokens test)) (O ++ L)
+      ∙ ap (λ told. before ++ (shown (opening_tokens test) ++ (cond told (codes "&& ") (codes "if ( ") ++ L))) begun.is_told
+      ∙ ap (λ t. before ++ t) (opening_more test literal);
+  is_told = sym (tested_more test literal);
+}
 
 pub begun_none : (before : List ℕ) (test : List Literal) (text : List ℕ) (tested : Bool) → IsBegun before test text tested → IsBegun before (test ++ []) text tested
 begun_none before test text tested begun = let P : List Literal → Type 0 = λ t. IsBegun before t text tested in rw (append-nil test) begun
@@ -130,8 +130,8 @@ declared_next names i name before t0 t1 within is p q =
     let old = F (variables_of (take i names)) in
     let new = declaration_tokens (variable_of (get_or names i [])) in
     let next : F (variables_of (take (i + 1) names)) ≡ old ++ new =
-        ap (λ ns. F (variables_of ns)) (take_more names i [] within) ∙ ap F (map-append variable_of (take i names) (get_or names i [] ∷ []))
-        ∙ flat_map-append declaration_tokens (variables_of (take i names)) (variable_of (get_or names i []) ∷ []) ∙ ap (λ t. old ++ t) (append-nil new) in
+    ap (λ ns. F (variables_of ns)) (take_more names i [] within) ∙ ap F (map-append variable_of (take i names) (get_or names i [] ∷ []))
+    ∙ flat_map-append declaration_tokens (variables_of (take i names)) (variable_of (get_or names i []) ∷ []) ∙ ap (λ t. old ++ t) (append-nil new) in
     q ∙ ap (λ t. t ++ shown (declaration_tokens (variable_of name))) p ∙ ap (λ n. (before ++ shown old) ++ shown (declaration_tokens (variable_of n))) is
     ∙ append_assoc before (shown old) (shown new) ∙ ap (λ t. before ++ t) (sym (shown-append old new) ∙ ap shown (sym next))
 
@@ -193,4 +193,4 @@ module _ (names : List (List ℕ)) where
       let S = flat_map statement_tokens (lifted names [] lines) in
       s ∙ ap (λ t. t ++ codes "}\n") (r ∙ ap (λ t. t ++ shown S) (q ∙ ap (λ t. t ++ shown head_tokens) p))
       ∙ sym (shown-append (D ++ head_tokens ++ S) (codes "}" ∷ [])
-          ∙ ap (λ t. t ++ codes "}\n") (shown-append (D ++ head_tokens) S ∙ ap (λ t. t ++ shown S) (shown-append D head_tokens)))
+      ∙ ap (λ t. t ++ codes "}\n") (shown-append (D ++ head_tokens) S ∙ ap (λ t. t ++ shown S) (shown-append D head_tokens)))

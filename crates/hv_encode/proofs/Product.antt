@@ -1,24 +1,18 @@
 -- The metaproduct of a body is a typed, concise program that runs as the variants.
-use Rattle.std.proofs.Common.{◌≡◌, ℕ, ◌+◌, ◌<◌, ◌≤◌, ◌≢◌, Bool, true, false, not, ◌&&◌, ◌||◌, ◌==◌, List, [], ◌∷◌, ◌++◌, map, cond, refl, sym, ◌∙◌, ap, arith, length, codes, Some}
-use Rattle.std.specs.List.{list_all, list_any, position, All, AllByRecursion, AllPairs, Contains, count_by}
+use Rattle.std.proofs.Common.{◌≡◌, ℕ, ◌<◌, ◌≢◌, Bool, true, false, not, ◌&&◌, ◌||◌, ◌==◌, List, [], ◌∷◌, ◌++◌, cond, refl, sym, ◌∙◌, ap, arith, codes, Some}
+use Rattle.std.specs.List.{list_any, position, All, AllByRecursion, AllPairs}
 use Rattle.std.specs.Str.{bytes_eq}
-use Rattle.std.proofs.lemmas.List.{append-nil, append_cancel_left, length-append}
-use Rattle.std.proofs.lemmas.List.Elements.{All-nil, All-cons, All-append, All-from_recursion, recursion_from_All, All-map, All-weaker, Contains-get_or, All-contains_itself}
+use Rattle.std.proofs.lemmas.List.{append-nil, append_cancel_left}
+use Rattle.std.proofs.lemmas.List.Elements.{All-nil, All-cons, All-append}
 use Rattle.std.proofs.lemmas.List.Quantifiers.{all_pairs_push}
 use Rattle.std.proofs.lemmas.Bool.Decides.{Decides-eqb}
-use Rattle.hv_plain.specs.Config.{IsValid, is_on}
-use Rattle.hv_plain.specs.Name.{is_option_name, AllOptionNames}
-use Rattle.hv_plain.specs.Source.{IsSmallSource, kept, is_put}
-use Rattle.hv_plain.specs.Program.{Literal, Statement, Program, IsTyped, IsTypedStatement, IsProgramText, shown, program_tokens}
-use Rattle.hv_plain.specs.Run.{start, variable_of, variables_of, literal_holds, output_of, plain_statement, no_start, IsConcise, Encodes, RunsAsVariants, variant_of}
+use Rattle.hv_plain.specs.Program.{Literal, Statement}
 use Rattle.hv_encode.specs.declared.line.Line.{Line}
 use Rattle.hv_encode.specs.declared.line.Line.TheVariants.{Put, IfDefined, IfNotDefined, Else, EndIf}
 use Rattle.hv_encode.specs.declared.lift.Group.{Group}
-use Rattle.hv_encode.specs.Lines.{name_at, plain, IsOption, IsKnown}
-use Rattle.hv_encode.specs.Lift.{has_literal, opened, after, literal_of, part_of_test, test_in, statement_of, lifted, product_of}
-use Rattle.hv_encode.proofs.Lists.{list_all-append}
-use Rattle.hv_encode.proofs.Semantics.{IsMarked, output-lifted}
-use Rattle.hv_encode.proofs.Tokens.{no_gap, IsGapless, IsGaplessStatement, variable_has_none, program_has_none, split-shown}
+use Rattle.hv_encode.specs.Lines.{name_at, IsOption, IsKnown}
+use Rattle.hv_encode.specs.Lift.{has_literal, opened, literal_of, part_of_test, test_in, lifted}
+use Rattle.hv_encode.proofs.Semantics.{IsMarked}
 
 module _ (names : List (List ℕ)) where
   abbrev pub AllOptions : List Group → Type 0
@@ -71,7 +65,7 @@ module _ (names : List (List ℕ)) where
       let variables = append_cancel_left (codes "hv_opt_") (name_at names other.option) (name_at names group.option) (ap (λ (literal : Literal). literal.variable) e) in
       let options = same_option other.option group.option there here variables in
       let yes = and_both (other.option == group.option) (cond group.negated other.negated (not other.negated)) ((Decides-eqb other.option group.option).1 options)
-          (same_negation other.negated group.negated (ap (λ (literal : Literal). literal.negated) e)) in
+      (same_negation other.negated group.negated (ap (λ (literal : Literal). literal.negated) e)) in
       let no : true ≡ false = sym yes ∙ h in cc
 
   fresh : (group : Group) (groups : List Group) → IsOption names group.option → AllOptions groups → list_any (has_literal group.option group.negated) groups ≡ false

@@ -1,17 +1,16 @@
 -- The metaproduct puts in each configuration what preprocessing keeps there.
-use Rattle.std.proofs.Common.{◌≡◌, ℕ, ◌<◌, ◌≢◌, Bool, true, false, not, ◌&&◌, ◌||◌, ◌==◌, List, [], ◌∷◌, ◌++◌, map, cond, refl, sym, ◌∙◌, ap, arith, length}
+use Rattle.std.proofs.Common.{◌≡◌, ℕ, Bool, true, false, not, ◌&&◌, ◌||◌, ◌==◌, List, [], ◌∷◌, map, cond, refl, sym, ◌∙◌}
 use Rattle.std.specs.List.{list_all, list_any}
 use Rattle.std.specs.Str.{bytes_eq}
 use Rattle.std.proofs.lemmas.Bool.Decides.{Decides-eqb}
 use Rattle.hv_plain.specs.Config.{is_on}
 use Rattle.hv_plain.specs.Source.{kept}
-use Rattle.hv_plain.specs.Program.{Literal, Statement, Program}
 use Rattle.hv_plain.specs.Run.{start, variable_of, literal_holds, output_of}
 use Rattle.hv_encode.specs.declared.line.Line.{Line}
 use Rattle.hv_encode.specs.declared.line.Line.TheVariants.{Put, IfDefined, IfNotDefined, Else, EndIf}
 use Rattle.hv_encode.specs.declared.lift.Group.{Group}
 use Rattle.hv_encode.specs.Lines.{name_at, plain}
-use Rattle.hv_encode.specs.Lift.{has_literal, opened, after, literal_of, part_of_test, test_in, statement_of, lifted}
+use Rattle.hv_encode.specs.Lift.{has_literal, opened, literal_of, part_of_test, test_in, lifted}
 use Rattle.hv_encode.proofs.Lists.{list_all-append}
 
 -- the flag of each group is right

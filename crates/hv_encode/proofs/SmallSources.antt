@@ -1,16 +1,15 @@
 -- Reading a small source.
-use Rattle.std.proofs.Common.{◌≡◌, ◌≢◌, ℕ, ◌<◌, Bool, true, false, List, [], ◌∷◌, ◌++◌, map, refl, sym, ◌∙◌, ap, subst, length, codes, Some, None, Option, IfSome, IfNone, is_some, not, Contains}
+use Rattle.std.proofs.Common.{◌≡◌, ℕ, Bool, true, false, List, [], ◌∷◌, ◌++◌, map, refl, sym, ◌∙◌, ap, subst, codes, Some, None, Option, IfSome, IfNone, is_some, not, Contains}
 use Rattle.std.specs.List.{All, position}
 use Rattle.std.specs.Str.{bytes_eq}
 use Rattle.std.proofs.lemmas.List.{append_cancel_right}
 use Rattle.std.proofs.lemmas.List.Elements.{All-map, All-weaker, Contains-get_or, recursion_from_All}
-use Rattle.std.proofs.lemmas.List.Quantifiers.{position-Some}
 use Rattle.hv_plain.specs.Bytes.{trimmed}
 use Rattle.hv_plain.specs.Source as source
 use Rattle.hv_plain.specs.Source.{IsLine, IsSmallSource, spelled, is_nested}
 use Rattle.hv_encode.specs.declared.line.Line.{Line}
 use Rattle.hv_encode.specs.declared.line.Line.TheVariants.{Put, IfDefined, IfNotDefined, Else, EndIf}
-use Rattle.hv_encode.specs.Lines.{IsKnown, IsCutInto, IsFree, IsOption, name_at, plain}
+use Rattle.hv_encode.specs.Lines.{IsKnown, IsCutInto, IsFree, plain}
 use Rattle.hv_encode.proofs.Bodies.{closing}
 use Rattle.hv_encode.proofs.Reading.{not_found, found}
 use Rattle.hv_encode.proofs.Sources.{map_spelled-injective}
@@ -69,14 +68,14 @@ module _ (names : List (List ℕ)) where
   pub small_is : (text : List ℕ) (lines : List Line) → IsFree names → All (IsKnown names) lines → IsCutInto text (head_line ∷ main_line ∷ (map spelled (map (plain names) lines) ++ closing))
       → is_nested [] (map (plain names) lines) ≡ true → IsSmallSource names text (map (plain names) lines)
   small_is text lines free known cut nested = record {
-      texts = cut.texts;
-      cut = cut.cut;
-      lines = cut.is_trimmed;
-      each_line = known_lines lines known;
-      nested = nested;
-      main_is_free = free.main;
-      putchar_is_free = free.putchar
-      }
+    texts = cut.texts;
+    cut = cut.cut;
+    lines = cut.is_trimmed;
+    each_line = known_lines lines known;
+    nested = nested;
+    main_is_free = free.main;
+    putchar_is_free = free.putchar;
+  }
 
   pub small_none : (text rest : List ℕ) (lines : List Line) → All (IsKnown names) lines → IsCutInto rest (map spelled (map (plain names) lines) ++ closing)
       → ((tail : List (List ℕ)) → IsCutInto text (head_line ∷ main_line ∷ tail) → IsCutInto rest tail) → is_nested [] (map (plain names) lines) ≡ false
@@ -85,5 +84,5 @@ module _ (names : List (List ℕ)) where
       let own = kept (map spelled body ++ closing) (small_cut text body is) in
       let texts = append_cancel_right (map spelled body) (map spelled (map (plain names) lines)) closing (cut_unique rest (map spelled body ++ closing) (map spelled (map (plain names) lines) ++ closing) own cut) in
       let same = map_spelled-injective names body (map (plain names) lines) (recursion_from_All (IsLine names) body is.each_line)
-          (recursion_from_All (IsLine names) (map (plain names) lines) (known_lines lines known)) texts in
+      (recursion_from_All (IsLine names) (map (plain names) lines) (known_lines lines known)) texts in
       let wrong : true ≡ false = sym is.nested ∙ ap (is_nested []) same ∙ not_nested in cc

@@ -1,14 +1,14 @@
 -- A source has at most one body.
-use Rattle.std.proofs.Common.{◌≡◌, ℕ, eqb, get_or, ◌<◌, ◌^◌, Bool, true, false, List, [], ◌∷◌, ◌++◌, map, refl, sym, ◌∙◌, ap, arith, codes}
-use Rattle.std.specs.List.{All, AllByRecursion, slice_split}
+use Rattle.std.proofs.Common.{◌≡◌, ℕ, eqb, get_or, true, false, List, [], ◌∷◌, ◌++◌, map, refl, sym, ◌∙◌, ap, arith, codes}
+use Rattle.std.specs.List.{AllByRecursion}
 use Rattle.std.proofs.lemmas.Fmt.{decimal_injective}
 use Rattle.std.proofs.lemmas.List.{append_cancel_left, append_cancel_right}
 use Rattle.std.proofs.lemmas.List.Elements.{recursion_from_All}
 use Rattle.std.proofs.lemmas.Bool.Decides.{Decides-eqb}
 use Rattle.std.specs.Fmt.{decimal}
-use Rattle.hv_plain.specs.Bytes.{is_newline, trimmed}
+use Rattle.hv_plain.specs.Bytes.{trimmed}
 use Rattle.hv_encode.proofs.Lists.{heads}
-use Rattle.hv_plain.specs.Source.{Line, put, if_defined, if_not_defined, otherwise, end_if, spelled, IsLine, IsSmallSource, source_lines}
+use Rattle.hv_plain.specs.Source.{Line, put, if_defined, if_not_defined, otherwise, end_if, spelled, IsLine, IsSmallSource}
 
 -- texts that differ at a place are two
 pub differ_at : {P : Type 0} (k : ℕ) (s t : List ℕ) → s ≡ t → eqb (get_or s k 0) (get_or t k 0) ≡ false → P
@@ -22,7 +22,7 @@ module _ (options : List (List ℕ)) where
   pub spelled-injective : (a b : Line) → IsLine options a → IsLine options b → spelled a ≡ spelled b → a ≡ b
   spelled-injective (put m) (put n) p q e =
       ap put (decimal_injective m n (omega arith) (omega arith)
-        (append_cancel_left (codes "putchar(") (decimal m) (decimal n) (append_cancel_right (codes "putchar(" ++ decimal m) (codes "putchar(" ++ decimal n) (codes ");") e)))
+      (append_cancel_left (codes "putchar(") (decimal m) (decimal n) (append_cancel_right (codes "putchar(" ++ decimal m) (codes "putchar(" ++ decimal n) (codes ");") e)))
   spelled-injective (put m) (if_defined b) p q e = differ_at 0 (spelled (put m)) (spelled (if_defined b)) e refl
   spelled-injective (put m) (if_not_defined b) p q e = differ_at 0 (spelled (put m)) (spelled (if_not_defined b)) e refl
   spelled-injective (put m) otherwise p q e = differ_at 0 (spelled (put m)) (spelled otherwise) e refl

@@ -1,6 +1,6 @@
 -- The printed form of tokens, cut at its gaps, gives the tokens.
-use Rattle.std.proofs.Common.{◌≡◌, ℕ, ◌+◌, ◌<◌, ◌^◌, ◌%◌, Bool, true, false, not, ◌&&◌, ◌||◌, ◌==◌, List, [], ◌∷◌, ◌++◌, map, cond, refl, sym, ◌∙◌, ap, arith, length, lit<, codes}
-use Rattle.std.specs.List.{list_all, list_any, flat_map, slice_split, All, AllByRecursion}
+use Rattle.std.proofs.Common.{◌≡◌, ℕ, ◌+◌, ◌<◌, ◌^◌, ◌%◌, Bool, true, false, not, ◌||◌, List, [], ◌∷◌, ◌++◌, cond, refl, ◌∙◌, ap, arith, codes}
+use Rattle.std.specs.List.{list_all, flat_map, slice_split, AllByRecursion}
 use Rattle.std.specs.Fmt.{decimal}
 use Rattle.std.proofs.lemmas.Fmt.{decimal_by_steps}
 use Rattle.std.proofs.lemmas.List.{append_assoc}
@@ -9,9 +9,9 @@ use Rattle.std.proofs.lemmas.List.Splits.{slice_split_at}
 use Rattle.std.proofs.lemmas.Bool.Decides.{nat_tests}
 use Rattle.hv_plain.specs.Bytes.{is_gap}
 use Rattle.hv_plain.specs.Name.{is_letter, is_digit, is_name, is_option_name}
-use Rattle.hv_plain.specs.Program.{Literal, Statement, Program, shown, shown_token, ends_a_line, literal_tokens, test_tokens, call_tokens, guarded_tokens, statement_tokens, declaration_tokens, head_tokens, program_tokens}
-use Rattle.hv_plain.specs.Run.{variable_of, variables_of}
-use Rattle.hv_encode.proofs.Lists.{list_all-append, list_all-flat_map, and_both, and_parts}
+use Rattle.hv_plain.specs.Program.{Literal, Statement, Program, shown, ends_a_line, literal_tokens, test_tokens, call_tokens, guarded_tokens, statement_tokens, declaration_tokens, head_tokens, program_tokens}
+use Rattle.hv_plain.specs.Run.{variable_of}
+use Rattle.hv_encode.proofs.Lists.{list_all-append, and_both, and_parts}
 
 abbrev pub no_gap : List ℕ → Bool
 no_gap token = list_all (λ byte. not (is_gap byte)) token
@@ -121,8 +121,8 @@ pub program_has_none : (program : Program) → AllByRecursion (λ variable. no_g
 program_has_none program variables statements =
     list_all-append no_gap (flat_map declaration_tokens program.variables ++ head_tokens ++ flat_map statement_tokens program.statements) (codes "}" ∷ [])
     ∙ and_both _ _
-        (list_all-append no_gap (flat_map declaration_tokens program.variables ++ head_tokens) (flat_map statement_tokens program.statements)
-        ∙ and_both _ _
-            (list_all-append no_gap (flat_map declaration_tokens program.variables) head_tokens ∙ and_both _ _ (declarations_have_none program.variables variables) refl)
-            (statements_have_none program.statements statements))
-        refl
+    (list_all-append no_gap (flat_map declaration_tokens program.variables ++ head_tokens) (flat_map statement_tokens program.statements)
+    ∙ and_both _ _
+    (list_all-append no_gap (flat_map declaration_tokens program.variables) head_tokens ∙ and_both _ _ (declarations_have_none program.variables variables) refl)
+    (statements_have_none program.statements statements))
+    refl

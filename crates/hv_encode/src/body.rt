@@ -33,7 +33,11 @@ pub fn behind_line<'a>(text: &'a [u8], line: &[u8]) -> Option<&'a [u8]>
     ensures none { IfNone result ((lines : List (List ℕ)) → ¬ (IsCutInto text.now (line.now ∷ lines))) }
 {
     let (first, rest) = cut_line(text)?;
-    if trimmed(first) == line { Some(rest) } else { None }
+    if trimmed(first) == line {
+        Some(rest)
+    } else {
+        None
+    }
 }
 
 /// The lines of a body, which the closing line and nothing else follows.

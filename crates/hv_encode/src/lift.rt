@@ -28,7 +28,9 @@ impl Group {
 fn is_repeated(groups: &[Group], option: usize, negated: bool) -> bool
     ensures { result ≡ list_any (has_literal option negated) groups.now }
 {
-    groups.iter().any(|group| group.has_literal(option, negated))
+    groups
+        .iter()
+        .any(|group| group.has_literal(option, negated))
 }
 
 /// The group that opens within these, of which the outermost comes first.

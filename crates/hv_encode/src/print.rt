@@ -93,7 +93,12 @@ fn write_line(text: &mut Text, model: &Model, groups: &[Group], line: Line) -> R
 }
 
 /// Writes the statements of a body.
-fn write_statements(alloc: Global, text: &mut Text, model: &Model, lines: &[Line]) -> Result<(), Memory>
+fn write_statements(
+    alloc: Global,
+    text: &mut Text,
+    model: &Model,
+    lines: &[Line],
+) -> Result<(), Memory>
     requires { All (IsKnown model.now) lines.now }
     ensures { OnOk result (text.new ≡ text.old ++ shown (flat_map statement_tokens (lifted model.now [] lines.now))) }
 {

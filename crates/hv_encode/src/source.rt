@@ -24,7 +24,10 @@ fn behind_head(source: &[u8]) -> Option<&[u8]>
     ensures kept { IfSome result (λ rest. (lines : List (List ℕ)) → IsCutInto source.now (codes "int putchar(int);" ∷ codes "int main(void) {" ∷ lines) → IsCutInto rest.now lines) }
     ensures none { IfNone result ((lines : List (List ℕ)) → ¬ (IsCutInto source.now (codes "int putchar(int);" ∷ codes "int main(void) {" ∷ lines))) }
 {
-    behind_line(behind_line(source, b"int putchar(int);")?, b"int main(void) {")
+    behind_line(
+        behind_line(source, b"int putchar(int);")?,
+        b"int main(void) {",
+    )
 }
 
 /// The body of a small source, unless the source is none.

@@ -1,4 +1,4 @@
-use Rattle.std.proofs.Common.{◌≡◌, ◌∙◌, ℕ, sym, ap, arith, true, false, List, decimal}
+use Rattle.std.proofs.Common.{◌≡◌, ◌∙◌, sym, ap, true, false, decimal}
 use Rattle.std.proofs.lemmas.Bool.Decides.{Decides-eqb}
 use Rattle.std.proofs.lemmas.Slice.Eq.{slice_eq-Decides}
 use Rattle.hv_encode.proofs.Reading.{decimal_is_text, parsed, not_parsed}

@@ -1,4 +1,4 @@
-use Rattle.std.proofs.Common.{◌≡◌, ◌∙◌, ◌+◌, ℕ, Bool, false, sym, ap, cond, List, [], map, reverse, drop, rules}
+use Rattle.std.proofs.Common.{◌∙◌, ◌+◌, false, sym, ap, cond, map, reverse, drop, rules}
 use Rattle.hv_plain.specs.Source.{is_nested}
 use Rattle.hv_encode.specs.declared.line.Line.TheVariants.{Put}
 use Rattle.hv_encode.specs.Lines.{plain}
@@ -10,7 +10,7 @@ returns-then-not-branch c = λ names.
     let all = c.args.lines.now in
     let behind = c.goes_on.new.groups.items in
     let next = nested_step names all c.loop-line.line-index c.loop-line.groups.items (c.loop-line.invariant names) (Put 0) behind c.in_ok-goes_on.field-0
-        c.loop-line-test.true (c.in_ok-goes_on.ensures names) in
+    c.loop-line-test.true (c.in_ok-goes_on.ensures names) in
     sym (next ∙ ap (λ goes. cond goes (is_nested (reverse behind) (map (plain names) (drop (c.loop-line.line-index + 1) all))) false) c.if-not-branch.true)
 
 pub loop-line-preserved : goal.loop-line-preserved
@@ -18,7 +18,7 @@ loop-line-preserved c = λ names.
     let all = c.args.lines.now in
     let behind = c.goes_on.new.groups.items in
     let next = nested_step names all c.loop-line.line-index c.loop-line.groups.items (c.loop-line.invariant names) (Put 0) behind c.in_ok-goes_on.field-0
-        c.loop-line-test.true (c.in_ok-goes_on.ensures names) in
+    c.loop-line-test.true (c.in_ok-goes_on.ensures names) in
     next ∙ ap (λ goes. cond goes (is_nested (reverse behind) (map (plain names) (drop (c.loop-line.line-index + 1) all))) false) c.if-not-branch.false
 
 pub returns : goal.returns

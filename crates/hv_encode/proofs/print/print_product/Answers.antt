@@ -15,5 +15,5 @@ returns-clause-reads c =
     let text = c.extend_from_slice-2.new.self in
     reads names c.write_declarations.ensures.names lines (recursion_from_All (IsKnown names) lines c.requires) text
     (product_text names lines c.write_declarations.new.text c.extend_from_slice.new.self c.write_statements.new.text text
-        (c.in_ok-write_declarations.ensures.text ∙ ap (λ t. t ++ shown (flat_map declaration_tokens (variables_of names))) c.new-text.ensures)
-        c.in_ok-extend_from_slice.ensures.ok c.in_ok-write_statements.ensures c.in_ok-extend_from_slice-2.ensures.ok)
+    (c.in_ok-write_declarations.ensures.text ∙ ap (λ t. t ++ shown (flat_map declaration_tokens (variables_of names))) c.new-text.ensures)
+    c.in_ok-extend_from_slice.ensures.ok c.in_ok-write_statements.ensures c.in_ok-extend_from_slice-2.ensures.ok)

@@ -9,4 +9,4 @@ returns c = λ before test begun.
     let text = c.write_literal.new.text in
     begun_part before test literal text c.args.group.repeated c.if-group.false
     (begun_more before test literal c.args.text.now c.extend_from_slice.new.self text c.args.tested begun
-        (c.in_ok-extend_from_slice.ensures.ok ∙ ap (λ t. c.args.text.now ++ t) c.opening.ensures) c.in_ok-write_literal.ensures)
+    (c.in_ok-extend_from_slice.ensures.ok ∙ ap (λ t. c.args.text.now ++ t) c.opening.ensures) c.in_ok-write_literal.ensures)

@@ -1,4 +1,4 @@
-use Rattle.std.proofs.Common.{◌≡◌, List, sym, map, subst}
+use Rattle.std.proofs.Common.{List, sym, map, subst}
 use Rattle.std.specs.List.{All}
 use Rattle.hv_plain.specs.Source.{IsSmallSource}
 use Rattle.hv_encode.specs.declared.line.Line.{Line}

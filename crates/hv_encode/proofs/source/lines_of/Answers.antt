@@ -1,4 +1,4 @@
-use Rattle.std.proofs.Common.{◌≡◌, ◌∙◌, ◌++◌, [], ap, sym, map}
+use Rattle.std.proofs.Common.{◌∙◌, ◌++◌, [], ap, sym, map}
 use Rattle.std.specs.List.{All}
 use Rattle.hv_plain.specs.Source.{spelled, is_nested}
 use Rattle.hv_encode.specs.Lines.{IsKnown, IsCutInto, plain}

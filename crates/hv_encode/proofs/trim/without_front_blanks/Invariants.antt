@@ -1,4 +1,4 @@
-use Rattle.std.proofs.Common.{◌≡◌, reverse, length}
+use Rattle.std.proofs.Common.{◌≡◌, length}
 use Rattle.hv_plain.specs.Bytes.{without_front_blanks}
 use Rattle.hv_encode.proofs.trim.without_front_blanks.Given as goal
 
