@@ -11,3 +11,6 @@ mod source;
 mod trim;
 
 pub use small::encode_small;
+
+#[cfg(test)]
+mod tests;
