@@ -6,8 +6,8 @@ use hv_outside::{DirFiles, StdSink, StdSource, write_all};
 use std::alloc::AllocError;
 use std::env;
 use std::io::ErrorKind;
-use std::rt::Env;
 use std::process::ExitCode;
+use std::rt::Env;
 
 /// The status for want of memory.
 const WANT_OF_MEMORY: u8 = 5;

@@ -1,29 +1,27 @@
 -- What each status means, from the way in which a call ended.
-use Rattle.std.proofs.Common.{◌≡◌, ◌≢◌, ℕ, ◌≤◌, List, [], ◌++◌, Bool, Option, Some, None, IsTrue, ◌⊎◌, inl, inr, refl, sym, ◌∙◌, ap, arith, length, append-nil, subst, ◌<◌, ◌+◌}
+use Rattle.std.proofs.Common.{◌≡◌, ℕ, List, [], ◌++◌, Option, Some, None, IsTrue, ◌⊎◌, inl, inr, refl, sym, ◌∙◌, ap, arith, length, append-nil, subst, ◌<◌}
 use Rattle.std.specs.Option.{option_map}
-use Rattle.hv_outside.specs.Count.{Rose}
 use Rattle.hv_outside.specs.Sink.{Adds, AddsFront}
 use Rattle.hv_plain.specs.declared.model.ModelFault.{ModelFault}
-use Rattle.hv_plain.specs.ModelFile.{ModelReading, model_of, options, fault}
-use Rattle.hv_plain.specs.Source.{Line, IsSmallSource}
+use Rattle.hv_plain.specs.ModelFile.{ModelReading, model_of, options}
 use Rattle.hv_encode.specs.declared.command.Role.{Role}
 use Rattle.hv_encode.specs.declared.command.Role.TheVariants.{Model, Main}
 use Rattle.hv_encode.specs.declared.answer.Answer.{Answer}
 use Rattle.hv_encode.specs.declared.answer.Answer.TheVariants.{Encoded, LeftOut, BadWords, CannotRead, NoFile, TooBig, BadModel}
-use Rattle.hv_encode.specs.Answer.{status_of, output_of, message_of, want_of_memory}
-use Rattle.hv_encode.specs.Due.{Reads, Command, command_of, name_of, IsFile, IsEncoded, IsDue, IsDueTo, IsDueFor}
-use Rattle.hv_encode.specs.Given.{Writes, IsWhole, IsUnwritten, IsStarved, IsGiven}
+use Rattle.hv_encode.specs.Answer.{status_of, want_of_memory}
+use Rattle.hv_encode.specs.Due.{Reads, Command, command_of, name_of, IsEncoded, IsDue, IsDueTo, IsDueFor}
+use Rattle.hv_encode.specs.Given.{Writes, IsGiven}
 use Rattle.hv_encode.specs.Ends.{Answers, Fails, Starves, Unread, Ends, answered, failed, starved, Headline, IsGood, Succeeds}
 
 module _ (words : List (List ℕ)) (reads : Reads) (w : Writes) where
   pub Ends-given : (status : ℕ) (answer : Answer) → IsDue reads words answer → IsGiven w status answer → Ends words reads w status
   Ends-given status answer due given = elim given [
-      | inl whole ↦ answered answer (record { due = due; whole = whole })
-      | inr other ↦ elim other [
-          | inl unwritten ↦ failed (record { answer = answer; due = due; unwritten = unwritten })
-          | inr starves ↦ starved (inl (answer, due, starves))
-        ]
+    | inl whole ↦ answered answer (record { due = due; whole = whole })
+    | inr other ↦ elim other [
+      | inl unwritten ↦ failed (record { answer = answer; due = due; unwritten = unwritten })
+      | inr starves ↦ starved (inl (answer, due, starves))
     ]
+  ]
 
   status_starved : (status : ℕ) → Starves words reads w status → status ≡ 5
   status_starved status (inl s) = s.2.status_is
@@ -152,27 +150,27 @@ module _ (words : List (List ℕ)) (reads : Reads) (w : Writes) where
 
   pub Headline-of : (status : ℕ) → Ends words reads w status → status ≡ 0 → IsTrue reads.told → Headline words reads.held w.out_before w.out_now
   Headline-of status ends zero told =
-    let found = encoded-of status ends zero in
-    let text : List ℕ = found.0 in
-    let at = encoded_command (command_of words) text found.1.due in
-    let e = at.2 in
-    record {
-      command = at.0;
-      words_are = at.1;
-      model_file = e.input.bytes;
-      model_held = e.input.model.held told;
-      source = e.source;
-      source_held = e.input.main.held told;
-      names = e.names;
-      model_read = e.input.accepted;
-      body = e.body;
-      source_read = e.small;
-      text = text;
-      text_written = text_behind w.out_before w.out_now text found.1.whole.output;
-      product = e.encodes.product;
-      product_read = e.encodes.reads;
-      agrees = e.encodes.runs.agrees;
-    }
+      let found = encoded-of status ends zero in
+      let text : List ℕ = found.0 in
+      let at = encoded_command (command_of words) text found.1.due in
+      let e = at.2 in
+      record {
+        command = at.0;
+        words_are = at.1;
+        model_file = e.input.bytes;
+        model_held = e.input.model.held told;
+        source = e.source;
+        source_held = e.input.main.held told;
+        names = e.names;
+        model_read = e.input.accepted;
+        body = e.body;
+        source_read = e.small;
+        text = text;
+        text_written = text_behind w.out_before w.out_now text found.1.whole.output;
+        product = e.encodes.product;
+        product_read = e.encodes.reads;
+        agrees = e.encodes.runs.agrees;
+      }
 
   some_same : {A : Type 0} (o : Option A) (x y : A) → o ≡ Some x → o ≡ Some y → x ≡ y
   some_same o x y p q = cc
@@ -191,28 +189,28 @@ module _ (words : List (List ℕ)) (reads : Reads) (w : Writes) where
   complete-at : (good : IsGood words reads w) (status : ℕ) (answer : Answer) → Answers words reads w status answer → IsDueTo reads good.command answer → Succeeds words reads w status
   complete-at good status (Encoded text) a due = inl (a.whole.status_is, (text, a))
   complete-at good status (LeftOut file) a due =
-    let same_file = some_same (reads.held good.command.model) due.input.bytes good.model_file (due.input.model.held good.told) good.model_held in
-    let same_source = some_same (reads.held good.command.main) due.source good.source (due.input.main.held good.told) good.source_held in
-    let same_names = options_same (model_of good.model_file) due.names good.names (rw same_file at due.input.accepted) good.model_read in
-    absurd (due.no_small_source good.body (rw (same_names, same_source) good.source_read))
+      let same_file = some_same (reads.held good.command.model) due.input.bytes good.model_file (due.input.model.held good.told) good.model_held in
+      let same_source = some_same (reads.held good.command.main) due.source good.source (due.input.main.held good.told) good.source_held in
+      let same_names = options_same (model_of good.model_file) due.names good.names (rw same_file at due.input.accepted) good.model_read in
+      absurd (due.no_small_source good.body (rw (same_names, same_source) good.source_read))
   complete-at good status BadWords a due = absurd due
   complete-at good status (CannotRead name) a due = absurd (good.no_read_fault due.rose)
   complete-at good status (NoFile name) a due = absurd (present good due.role (ap reads.held (sym due.asked) ∙ due.held good.told))
   complete-at good status (TooBig name size total) a due =
-    let found = due.held good.told in
-    absurd (small good due.role found.0 (ap reads.held (sym due.asked) ∙ found.1) (omega (arith, due.beyond, found.2)))
+      let found = due.held good.told in
+      absurd (small good due.role found.0 (ap reads.held (sym due.asked) ∙ found.1) (omega (arith, due.beyond, found.2)))
   complete-at good status (BadModel found) a due =
-    let same_file = some_same (reads.held good.command.model) due.bytes good.model_file (due.read.held good.told) good.model_held in
-    let refused = rw same_file at due.refused in
-    let accepted = good.model_read in
-    cc
+      let same_file = some_same (reads.held good.command.model) due.bytes good.model_file (due.read.held good.told) good.model_held in
+      let refused = rw same_file at due.refused in
+      let accepted = good.model_read in
+      cc
 
   pub complete-of : (status : ℕ) → Ends words reads w status → IsGood words reads w → Succeeds words reads w status
   complete-of status (answered answer a) good = complete-at good status answer a (due_to (command_of words) good.command answer good.words_are a.due)
   complete-of status (failed f) good = elim f.unwritten.cause [
-      | inl out ↦ absurd (good.no_output_fault out.0)
-      | inr err ↦ absurd (good.no_message_fault err.0)
-    ]
+    | inl out ↦ absurd (good.no_output_fault out.0)
+    | inr err ↦ absurd (good.no_message_fault err.0)
+  ]
   complete-of status (starved s) good = inr (status_starved status s)
 
 -- what is written before memory was wanting for the answer itself: nothing

@@ -1,5 +1,5 @@
 -- Which answer is due, by the words, the files, the model and the source.
-use Rattle.std.specs.Prelude.{ℕ, ◌≡◌, ◌<◌, ◌≤◌, ◌⊎◌, Bool, cond, List, [], ◌∷◌, length, Option, Some, None, codes, IsTrue}
+use Rattle.std.specs.Prelude.{ℕ, ◌≡◌, ◌<◌, ◌≤◌, Bool, cond, List, [], ◌∷◌, length, Option, Some, None, codes, IsTrue}
 use Rattle.std.specs.Str.{bytes_eq}
 use Rattle.hv_outside.specs.Count.{Rose}
 use Rattle.hv_plain.specs.ModelFile.{model_of, options, fault}
@@ -24,14 +24,14 @@ pub record Reads : Type 0 where
 -- `reads told held faults absences failed_name before now`, with the meanings that a type of files has
 abbrev pub reads : {F : Type 0} → (F → Bool) → (F → List ℕ → Option (List ℕ)) → (F → ℕ) → (F → ℕ) → (F → Option (List ℕ)) → F → F → Reads
 reads told held faults absences failed_name before now = record {
-    told = told before;
-    held = held before;
-    faults_before = faults before;
-    faults_now = faults now;
-    absences_before = absences before;
-    absences_now = absences now;
-    failed_name = failed_name now;
-  }
+  told = told before;
+  held = held before;
+  faults_before = faults before;
+  faults_now = faults now;
+  absences_before = absences before;
+  absences_now = absences now;
+  failed_name = failed_name now;
+}
 
 -- the names of the model file and of the main file
 pub record Command : Type 0 where

@@ -1,15 +1,13 @@
 -- How a call of the program ends, status by status.
-use Rattle.std.specs.Prelude.{ℕ, ◌≡◌, ◌≢◌, ◌≤◌, ◌⊎◌, Bool, List, [], ◌++◌, length, Option, Some, None, IsTrue}
+use Rattle.std.specs.Prelude.{ℕ, ◌≡◌, ◌≢◌, ◌≤◌, ◌⊎◌, Bool, List, [], ◌++◌, length, Option, Some, IsTrue}
 use Rattle.hv_outside.specs.Count.{Rose}
-use Rattle.hv_outside.specs.Sink.{AddsFront}
-use Rattle.hv_plain.specs.declared.model.ModelFault.{ModelFault}
 use Rattle.hv_plain.specs.Config.{IsValid}
 use Rattle.hv_plain.specs.ModelFile.{model_of, options}
 use Rattle.hv_plain.specs.Source.{Line, IsSmallSource}
 use Rattle.hv_plain.specs.Program.{Program, IsProgramText}
 use Rattle.hv_plain.specs.Run.{IsVariant, run, start, no_start, undefined, variables_of}
 use Rattle.hv_encode.specs.declared.answer.Answer.{Answer}
-use Rattle.hv_encode.specs.declared.answer.Answer.TheVariants.{Encoded, LeftOut, BadWords, CannotRead, NoFile, TooBig, BadModel}
+use Rattle.hv_encode.specs.declared.answer.Answer.TheVariants.{Encoded, CannotRead, NoFile, TooBig}
 use Rattle.hv_encode.specs.Answer.{output_of, message_of}
 use Rattle.hv_encode.specs.Due.{Reads, Command, command_of, IsDue}
 use Rattle.hv_encode.specs.Given.{Writes, IsWhole, IsUnwritten, IsStarved}
@@ -65,8 +63,8 @@ pub record Headline (words : List (List ℕ)) (held : List ℕ → Option (List 
   pub product : Program
   pub product_read : IsProgramText (variables_of names) text product
   pub agrees : (values : List Bool) → IsValid names values → (variant : Program) → IsVariant names source values variant → (input : List ℕ) (steps : ℕ)
-    → (run variant no_start input steps).ending ≢ undefined
-    → run product (start names values) input steps ≡ run variant no_start input steps
+      → (run variant no_start input steps).ending ≢ undefined
+      → run product (start names values) input steps ≡ run variant no_start input steps
 
 -- what completeness asks of the words, the files and the source; and that no count of faults rose
 pub record IsGood (words : List (List ℕ)) (reads : Reads) (w : Writes) : Type 0 where

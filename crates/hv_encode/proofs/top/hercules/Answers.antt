@@ -1,7 +1,4 @@
-use Rattle.std.proofs.Common.{map, refl}
-use Rattle.std.specs.String.{string_bytes}
-use Rattle.hv_encode.specs.Due.{reads}
-use Rattle.hv_encode.specs.Given.{writes}
+use Rattle.std.proofs.Common.{refl}
 use Rattle.hv_encode.proofs.EndsLemmas.{Ends-given, Ends-starved, complete-of}
 use Rattle.hv_encode.proofs.top.hercules.Goals as goal
 
