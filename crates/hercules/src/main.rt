@@ -40,3 +40,6 @@ fn words<R: Env + AllocGlobal>(rt: &R) -> Result<Vec<String>, AllocError> {
         Err(_) => Ok(Vec::new(rt.alloc())),
     }
 }
+
+#[cfg(test)]
+mod tests;
