@@ -83,9 +83,7 @@ fn output(
 #[test]
 fn a_metaproduct_runs_as_each_variant(rt: HostRuntime) -> Result<(), Fail> {
     let without_x = "int putchar(int);\nint main(void) {\n#ifdef A\n    putchar(65);\n#endif\n}\n";
-    let Ok(model) = read_model(rt.alloc(), MODEL_A.as_bytes()) else {
-        panic!(rt; "the model is read");
-    };
+    let model = read_model(rt.alloc(), MODEL_A.as_bytes())?;
     for (source, with_option, without) in [(PUTS_X_AND_A, "xA", "x"), (without_x, "A", "")] {
         let ended = encode(rt.alloc(), MODEL_A, source)?;
         assert_eq!(rt; ended.status, 0);
@@ -109,9 +107,7 @@ fn with_body(alloc: Global, body: &str) -> Result<String, AllocError> {
 #[test]
 fn groups_nest_in_each_of_eight_configurations(rt: HostRuntime) -> Result<(), Fail> {
     let text = "option A\noption B\noption C\n";
-    let Ok(model) = read_model(rt.alloc(), text.as_bytes()) else {
-        panic!(rt; "the model is read");
-    };
+    let model = read_model(rt.alloc(), text.as_bytes())?;
     // The outputs without options, then with A, with B, with A and B, and the same with C.
     let table = [
         (

@@ -4,7 +4,7 @@ use Rattle.std.specs.List.{All, slice_split, position, position_or_len, join_wit
 use Rattle.std.proofs.lemmas.Bool.Decides.{Decides-eqb}
 use Rattle.std.proofs.lemmas.List.{nil_from_length, append_assoc, map-append, take_rest, drop_more, take-append-drop, length-take, length-drop, get_or-take}
 use Rattle.std.proofs.lemmas.List.Quantifiers.{position-Some}
-use Rattle.std.proofs.lemmas.List.Elements.{All-from_get_or, All-push, All-nil, All-head, All-tail}
+use Rattle.std.proofs.lemmas.List.Elements.{All-from_get_or, All-push, All-head, All-tail}
 use Rattle.std.proofs.lemmas.List.Splits.{slice_split_at, slice_split_none, join_with_byte-slice_split}
 use Rattle.std.proofs.lemmas.List.Sums.{fails_before_first}
 use Rattle.hv_plain.specs.Bytes.{is_newline, trimmed}
@@ -81,15 +81,6 @@ cut_kept text part rest line lines e h =
     let is = first_text part (parts rest) h.texts line lines (sym e ∙ h.cut) h.is_trimmed in
     (is.0, record { texts = is.1.0; cut = is.1.1; is_trimmed = is.1.2 })
 
-no_text : (texts : List (List ℕ)) → [] ≡ texts ++ [] ∷ [] → ⊥
-no_text [] e = cc
-no_text (text ∷ texts) e = cc
-
--- without a newline there is no line
-pub cut_none : (text line : List ℕ) (lines : List (List ℕ)) → parts text ≡ text ∷ [] → IsCutInto text (line ∷ lines) → ⊥
-cut_none text line lines e h =
-    let is = first_text text [] h.texts line lines (sym e ∙ h.cut) h.is_trimmed in no_text is.1.0 is.1.1
-
 no_texts : (texts : List (List ℕ)) → map trimmed texts ≡ [] → texts ≡ []
 no_texts [] e = refl
 no_texts (text ∷ texts) e = cc
@@ -117,9 +108,6 @@ module _ (names : List (List ℕ)) where
     pub onto : (tail : List (List ℕ)) → IsCutInto rest tail → IsCutInto text (map spelled (map (plain names) lines) ++ tail)
     pub kept : (body : List source.Line) → All (IsLine names) body → IsCutInto text (map spelled body ++ closing)
         → (more : List source.Line) × All (IsLine names) more × IsCutInto rest (map spelled more ++ closing)
-
-  pub read_start : (text : List ℕ) → IsRead text text []
-  read_start text = record { known = All-nil (IsKnown names); onto = λ tail h. h; kept = λ body each h. (body, each, h) }
 
   next_kept : (part rest behind : List ℕ) (line : source.Line) (more : List source.Line) → parts rest ≡ part ∷ parts behind → trimmed part ≡ spelled line → All (IsLine names) more
       → IsCutInto rest (map spelled more ++ closing) → (later : List source.Line) × All (IsLine names) later × IsCutInto behind (map spelled later ++ closing)
@@ -173,13 +161,3 @@ module _ (names : List (List ℕ)) where
       → ((line : source.Line) → IsLine names line → trimmed part ≢ spelled line) → (body : List source.Line) → All (IsLine names) body → IsCutInto text (map spelled body ++ closing) → ⊥
   refuse_line text rest part behind lines read e t not_line body each h =
       let before = read.kept body each h in line_none part rest behind before.0 e t not_line before.1 before.2
-
-  open_none : (rest : List ℕ) (more : List source.Line) → parts rest ≡ rest ∷ [] → IsCutInto rest (map spelled more ++ closing) → ⊥
-  open_none rest [] e h = cut_none rest (codes "}") [] e h
-  open_none rest (first ∷ more) e h = cut_none rest (spelled first) (map spelled more ++ closing) e h
-
-  -- so does the want of a closing line
-  pub refuse_open : (text rest : List ℕ) (lines : List Line) → IsRead text rest lines → parts rest ≡ rest ∷ []
-      → (body : List source.Line) → All (IsLine names) body → IsCutInto text (map spelled body ++ closing) → ⊥
-  refuse_open text rest lines read e body each h =
-      let before = read.kept body each h in open_none rest before.0 e before.2

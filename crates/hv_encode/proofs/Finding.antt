@@ -72,7 +72,9 @@ IsDueTo-whole whole later l command (TooBig name size total) due = record {
 }
 IsDueTo-whole whole later l command (BadModel found) due = record {
   bytes = due.bytes;
-  read = IsFile-whole whole later l command.model due.bytes due.read;
+  model = IsFile-whole whole later l command.model due.bytes due.model;
+  source = due.source;
+  main = IsFile-whole whole later l command.main due.source due.main;
   refused = due.refused;
 }
 
@@ -97,7 +99,7 @@ IsDueTo-made reads command model_file source BadWords model main made = made
 IsDueTo-made reads command model_file source (CannotRead name) model main made = absurd made
 IsDueTo-made reads command model_file source (NoFile name) model main made = absurd made
 IsDueTo-made reads command model_file source (TooBig name size total) model main made = absurd made
-IsDueTo-made reads command model_file source (BadModel found) model main made = record { bytes = model_file; read = model; refused = made }
+IsDueTo-made reads command model_file source (BadModel found) model main made = record { bytes = model_file; model = model; source = source; main = main; refused = made }
 
 pub IsLater-reads : {F : Type 0} (told : F → Bool) (held : F → List ℕ → Option (List ℕ)) (faults absences : F → ℕ) (failed_name : F → Option (List ℕ)) (old mid new : F)
     → told mid ≡ told old → ((name : List ℕ) → held mid name ≡ held old name) → faults old ≤ faults mid → absences old ≤ absences mid

@@ -1,6 +1,6 @@
 -- Lists in general.
 use Rattle.std.proofs.Common.{◌≡◌, Bool, true, false, ◌&&◌, ◌||◌, List, [], ◌∷◌, ◌++◌, reverse, refl, sym, ◌∙◌, ap}
-use Rattle.std.specs.List.{list_all, list_any, flat_map, AllByRecursion}
+use Rattle.std.specs.List.{list_all, list_any}
 use Rattle.std.proofs.lemmas.List.{reverse-append}
 
 pub and_assoc : (a b c : Bool) → ((a && b) && c) ≡ (a && (b && c))
@@ -38,9 +38,6 @@ pub list_any-append : {X : Type 0} (p : X → Bool) (xs ys : List X) → list_an
 list_any-append p [] ys = refl
 list_any-append p (x ∷ xs) ys = rw (list_any-append p xs ys) (sym (or_assoc (p x) (list_any p xs) (list_any p ys)))
 
-pub reverse-push : {X : Type 0} (xs : List X) (x : X) → reverse (xs ++ x ∷ []) ≡ x ∷ reverse xs
-reverse-push xs x = reverse-append xs (x ∷ [])
-
 pub reverse-front : {X : Type 0} (x : X) (xs : List X) → reverse (x ∷ xs) ≡ reverse xs ++ x ∷ []
 reverse-front x xs = reverse-append (x ∷ []) xs
 
@@ -48,10 +45,6 @@ pub list_any-reverse : {X : Type 0} (p : X → Bool) (xs : List X) → list_any 
 list_any-reverse p [] = refl
 list_any-reverse p (x ∷ xs) =
     ap (list_any p) (reverse-front x xs) ∙ list_any-append p (reverse xs) (x ∷ []) ∙ rw (list_any-reverse p xs, or_false) (or_comm (list_any p xs) (p x))
-
-pub list_all-flat_map : {X Y : Type 0} (p : Y → Bool) (f : X → List Y) (xs : List X) → AllByRecursion (λ x. list_all p (f x) ≡ true) xs → list_all p (flat_map f xs) ≡ true
-list_all-flat_map p f [] h = refl
-list_all-flat_map p f (x ∷ xs) h = list_all-append p (f x) (flat_map f xs) ∙ and_both _ _ h.0 (list_all-flat_map p f xs h.1)
 
 pub heads : {X : Type 0} (x y : X) (xs ys : List X) → x ∷ xs ≡ y ∷ ys → (x ≡ y) × (xs ≡ ys)
 heads x y xs ys e = ((cc), (cc))

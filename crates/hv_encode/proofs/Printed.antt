@@ -1,16 +1,16 @@
 -- The text of each part of a program, as it is written.
-use Rattle.std.proofs.Common.{◌≡◌, ℕ, ◌+◌, ◌<◌, ◌≤◌, ◌%◌, ◌^◌, Bool, true, false, ◌&&◌, ◌||◌, ◌==◌, List, [], ◌∷◌, ◌++◌, reverse, cond, refl, sym, ◌∙◌, ap, arith, length, get_or, take, drop, codes, decimal, Result, Ok, Err, OnOk, Some, slice_get, zero, suc}
+use Rattle.std.proofs.Common.{◌≡◌, ℕ, ◌+◌, ◌<◌, ◌≤◌, ◌%◌, ◌^◌, Bool, true, false, ◌&&◌, ◌||◌, ◌==◌, List, [], ◌∷◌, ◌++◌, reverse, cond, refl, sym, ◌∙◌, ap, arith, length, get_or, take, codes, decimal, Result, Ok, Err, OnOk, Some, slice_get, zero, suc}
 use Rattle.std.specs.List.{flat_map, list_all, list_any}
 use Rattle.std.proofs.lemmas.Bool.Decides.{nat_tests}
 use Rattle.std.proofs.lemmas.Fmt.{decimal_by_steps}
 use Rattle.std.proofs.lemmas.Grind.{flat_map-append}
-use Rattle.std.proofs.lemmas.List.{append_assoc, append-nil, take_more, take_all, drop_more, at_drop_all, map-append}
+use Rattle.std.proofs.lemmas.List.{append_assoc, append-nil, take_more, take_all, map-append}
 use Rattle.hv_plain.specs.Name.{is_digit}
 use Rattle.hv_plain.specs.Program.{Literal, Statement, shown, shown_token, ends_a_line, literal_tokens, test_tokens, call_tokens, statement_tokens, declaration_tokens, head_tokens, program_tokens}
 use Rattle.hv_plain.specs.Run.{variable_of, variables_of}
 use Rattle.hv_encode.specs.declared.line.Line.{Line}
 use Rattle.hv_encode.specs.declared.lift.Group.{Group}
-use Rattle.hv_encode.specs.Lift.{IsBegun, is_tested, opening_tokens, part_of_test, test_in, has_literal, opened, after, statement_of, lifted, product_of}
+use Rattle.hv_encode.specs.Lift.{IsBegun, is_tested, opening_tokens, part_of_test, test_in, has_literal, opened, lifted, product_of}
 use Rattle.hv_encode.proofs.Lists.{list_all-append, and_both, and_parts, reverse-front, list_any-reverse}
 
 -- three writes in a row are one
@@ -85,9 +85,6 @@ begun_more before test literal t0 t1 t2 tested begun p q = record {
   is_told = sym (tested_more test literal);
 }
 
-pub begun_none : (before : List ℕ) (test : List Literal) (text : List ℕ) (tested : Bool) → IsBegun before test text tested → IsBegun before (test ++ []) text tested
-begun_none before test text tested begun = let P : List Literal → Type 0 = λ t. IsBegun before t text tested in rw (append-nil test) begun
-
 statement_text : (test : List Literal) (byte : ℕ) → shown (opening_tokens test) ++ (cond (is_tested test) (codes ") ") [] ++ shown (call_tokens byte)) ≡ shown (statement_tokens (record { test = test; byte = byte }))
 statement_text [] byte = refl
 statement_text (first ∷ test) byte = ap (λ t. codes "if ( " ++ t) (sym (shown-append (test_tokens (first ∷ test)) (codes ")" ∷ call_tokens byte)))
@@ -111,16 +108,9 @@ name_is [] option name e = cc
 name_is (first ∷ names) zero name e = cc
 name_is (first ∷ names) (suc option) name e = name_is names option name e
 
-pub flat_map_next : {X A : Type 0} (f : X → List A) (xs : List X) (i : ℕ) (d : X) → i < length xs → flat_map f (take (i + 1) xs) ≡ flat_map f (take i xs) ++ f (get_or xs i d)
-flat_map_next f xs i d within =
-    ap (flat_map f) (take_more xs i d within) ∙ flat_map-append f (take i xs) (get_or xs i d ∷ []) ∙ ap (λ t. flat_map f (take i xs) ++ t) (append-nil (f (get_or xs i d)))
-
 -- the text that statements are written as
 abbrev pub statements_text : List Statement → List ℕ
 statements_text statements = shown (flat_map statement_tokens statements)
-
-pub statements_text-append : (xs ys : List Statement) → statements_text (xs ++ ys) ≡ statements_text xs ++ statements_text ys
-statements_text-append xs ys = ap shown (flat_map-append statement_tokens xs ys) ∙ shown-append (flat_map statement_tokens xs) (flat_map statement_tokens ys)
 
 pub declared_next : (names : List (List ℕ)) (i : ℕ) (name before t0 t1 : List ℕ) → i < length names → name ≡ get_or names i []
     → t0 ≡ before ++ shown (flat_map declaration_tokens (variables_of (take i names))) → t1 ≡ t0 ++ shown (declaration_tokens (variable_of name))
@@ -135,34 +125,11 @@ declared_next names i name before t0 t1 within is p q =
     q ∙ ap (λ t. t ++ shown (declaration_tokens (variable_of name))) p ∙ ap (λ n. (before ++ shown old) ++ shown (declaration_tokens (variable_of n))) is
     ∙ append_assoc before (shown old) (shown new) ∙ ap (λ t. before ++ t) (sym (shown-append old new) ∙ ap shown (sym next))
 
-pub declared_all : (names : List (List ℕ)) (i : ℕ) (before text : List ℕ) → length names ≤ i → text ≡ before ++ shown (flat_map declaration_tokens (variables_of (take i names)))
-    → text ≡ before ++ shown (flat_map declaration_tokens (variables_of names))
-declared_all names i before text past e = e ∙ ap (λ ns. before ++ shown (flat_map declaration_tokens (variables_of ns))) (take_all i names past)
-
 pub opened_is : (groups : List Group) (option : ℕ) (negated repeated : Bool) → repeated ≡ list_any (has_literal option negated) groups
     → ◌≡◌ {A = Group} (record { option = option; negated = negated; repeated = repeated }) (opened (reverse groups) option negated)
 opened_is groups option negated repeated e =
     let G : Bool → Group = λ told. record { option = option; negated = negated; repeated = told } in
     ap G (e ∙ sym (list_any-reverse (has_literal option negated) groups))
-
-module _ (names : List (List ℕ)) (lines : List Line) (i : ℕ) (groups : List Group) (start text : List ℕ)
-    (so_far : start ++ statements_text (lifted names [] lines) ≡ text ++ statements_text (lifted names (reverse groups) (drop i lines))) where
-  pub statements_step : (default : Line) (behind : List Group) (text' : List ℕ) → i < length lines
-      → text' ≡ text ++ statements_text (statement_of names (reverse groups) (get_or lines i default)) → reverse behind ≡ after (get_or lines i default) (reverse groups)
-      → start ++ statements_text (lifted names [] lines) ≡ text' ++ statements_text (lifted names (reverse behind) (drop (i + 1) lines))
-  statements_step default behind text' within written passed =
-      let line = get_or lines i default in
-      let here = statement_of names (reverse groups) line in
-      let rest = drop (i + 1) lines in
-      so_far ∙ ap (λ more. text ++ statements_text (lifted names (reverse groups) more)) (drop_more lines i default within)
-      ∙ ap (λ t. text ++ t) (statements_text-append here (lifted names (after line (reverse groups)) rest))
-      ∙ sym (append_assoc text (statements_text here) (statements_text (lifted names (after line (reverse groups)) rest)))
-      ∙ ap (λ t. t ++ statements_text (lifted names (after line (reverse groups)) rest)) (sym written)
-      ∙ ap (λ gs. text' ++ statements_text (lifted names gs rest)) (sym passed)
-
-  pub statements_end : length lines ≤ i → text ≡ start ++ statements_text (lifted names [] lines)
-  statements_end past =
-      sym (append-nil text) ∙ sym (so_far ∙ at_drop_all (λ more. text ++ statements_text (lifted names (reverse groups) more)) lines i past)
 
 module _ (names : List (List ℕ)) where
   test-append : (groups : List Group) (group : Group) → test_in names (groups ++ group ∷ []) ≡ part_of_test names group ++ test_in names groups

@@ -1,5 +1,5 @@
 -- The metaproduct of a body is a typed, concise program that runs as the variants.
-use Rattle.std.proofs.Common.{◌≡◌, ℕ, ◌<◌, ◌≢◌, Bool, true, false, not, ◌&&◌, ◌||◌, ◌==◌, List, [], ◌∷◌, ◌++◌, cond, refl, sym, ◌∙◌, ap, arith, codes, Some}
+use Rattle.std.proofs.Common.{◌≡◌, ℕ, ◌<◌, ◌≢◌, Bool, true, false, not, ◌||◌, ◌==◌, List, [], ◌∷◌, ◌++◌, cond, refl, sym, ◌∙◌, ap, arith, codes, Some}
 use Rattle.std.specs.List.{list_any, position, All, AllByRecursion, AllPairs}
 use Rattle.std.specs.Str.{bytes_eq}
 use Rattle.std.proofs.lemmas.List.{append-nil, append_cancel_left}
@@ -12,6 +12,7 @@ use Rattle.hv_encode.specs.declared.line.Line.TheVariants.{Put, IfDefined, IfNot
 use Rattle.hv_encode.specs.declared.lift.Group.{Group}
 use Rattle.hv_encode.specs.Lines.{name_at, IsOption, IsKnown}
 use Rattle.hv_encode.specs.Lift.{has_literal, opened, literal_of, part_of_test, test_in, lifted}
+use Rattle.hv_encode.proofs.Lists.{and_both}
 use Rattle.hv_encode.proofs.Semantics.{IsMarked}
 
 module _ (names : List (List ℕ)) where
@@ -49,11 +50,6 @@ module _ (names : List (List ℕ)) where
   same_negation true false e = cc
   same_negation false true e = cc
   same_negation false false e = refl
-
-  and_both : (a b : Bool) → a ≡ true → b ≡ true → (a && b) ≡ true
-  and_both true true p q = refl
-  and_both true false p q = q
-  and_both false b p q = p
 
   or_parts : (a b : Bool) → (a || b) ≡ false → (a ≡ false) × (b ≡ false)
   or_parts true b e = cc

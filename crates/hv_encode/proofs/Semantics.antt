@@ -11,7 +11,7 @@ use Rattle.hv_encode.specs.declared.line.Line.TheVariants.{Put, IfDefined, IfNot
 use Rattle.hv_encode.specs.declared.lift.Group.{Group}
 use Rattle.hv_encode.specs.Lines.{name_at, plain}
 use Rattle.hv_encode.specs.Lift.{has_literal, opened, literal_of, part_of_test, test_in, lifted}
-use Rattle.hv_encode.proofs.Lists.{list_all-append}
+use Rattle.hv_encode.proofs.Lists.{list_all-append, and_parts}
 
 -- the flag of each group is right
 abbrev pub IsMarked : List Group → Type 0
@@ -45,10 +45,6 @@ same_negation false false e = refl
 or_cases : (a b : Bool) → (a || b) ≡ true → (P : Type 0) → (a ≡ true → P) → (b ≡ true → P) → P
 or_cases true b e P first second = first refl
 or_cases false b e P first second = second e
-
-and_parts : (a b : Bool) → (a && b) ≡ true → (a ≡ true) × (b ≡ true)
-and_parts true b e = (refl, e)
-and_parts false b e = cc
 
 pub literal_is : (option : ℕ) (negated : Bool) (group : Group) → has_literal option negated group ≡ true → (group.option ≡ option) × (group.negated ≡ negated)
 literal_is option negated group h =

@@ -81,9 +81,12 @@ pub record IsUnreadable (reads : Reads) (command : Command) (name : List ℕ) : 
   pub rose : Rose reads.faults_before reads.faults_now
   pub latest : reads.failed_name ≡ Some name
 
+-- both files were read, and the model file is refused
 pub record IsBadModel (reads : Reads) (command : Command) (line : ℕ) (kind : ModelKind) : Type 0 where
   pub bytes : List ℕ
-  pub read : IsFile reads command.model bytes
+  pub model : IsFile reads command.model bytes
+  pub source : List ℕ
+  pub main : IsFile reads command.main source
   pub refused : model_of bytes ≡ fault line kind
 
 -- the model file gives these options, and the main file these bytes

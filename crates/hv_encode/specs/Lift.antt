@@ -27,6 +27,7 @@ after Else (group ∷ groups) = opened groups group.option (not group.negated) �
 after EndIf [] = []
 after EndIf (group ∷ groups) = groups
 
+-- the literal of a group, on the variable of its option
 abbrev pub literal_of : List (List ℕ) → Group → Literal
 literal_of names group = record { variable = variable_of (name_at names group.option); negated = group.negated }
 
@@ -47,16 +48,20 @@ statement_of names groups (IfNotDefined option) = []
 statement_of names groups Else = []
 statement_of names groups EndIf = []
 
+-- what lines become behind these open groups
 abbrev pub lifted : List (List ℕ) → List Group → List Line → List Statement
 lifted names groups [] = []
 lifted names groups (line ∷ lines) = statement_of names groups line ++ lifted names (after line groups) lines
 
+-- the metaproduct of a body
 abbrev pub product_of : List (List ℕ) → List Line → Program
 product_of names lines = record { variables = variables_of names; statements = lifted names [] lines }
 
+-- the group's option is one of the model
 abbrev pub HasOption : List (List ℕ) → Group → Type 0
 HasOption names group = group.option < length names
 
+-- whether there is a test
 abbrev pub is_tested : List Literal → Bool
 is_tested [] = false
 is_tested (_ ∷ _) = true

@@ -1,11 +1,7 @@
 ghost use Rattle.std.specs.Prelude.{◌≡◌, reverse};
-ghost use Rattle.hv_plain.specs.Bytes.{is_blank as blank, without_front_blanks as without_front, trimmed as trimmed_text};
+ghost use Rattle.hv_plain.specs.Bytes.{without_front_blanks as without_front, trimmed as trimmed_text};
 
-fn is_blank(byte: u8) -> bool
-    ensures { result ≡ blank byte }
-{
-    byte == b' ' || byte == b'\t'
-}
+use hv_plain::is_blank;
 
 /// The text without the blanks at its front.
 fn without_front_blanks(text: &[u8]) -> &[u8]

@@ -7,6 +7,7 @@ mod model;
 mod name;
 mod small;
 
+pub use bytes::is_blank;
 pub use model::{Model, ModelFault, ModelKind, ModelRefusal, is_valid, read_model};
 pub use small::small_run;
 
