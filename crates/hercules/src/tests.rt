@@ -80,28 +80,37 @@ fn output(
     Ok(small_run(alloc, text, model, &config)?)
 }
 
+/// The body stands within the two lines at the head and the last one.
+fn with_body(alloc: Global, body: &str) -> Result<String, AllocError> {
+    format!(in alloc; "int putchar(int);\nint main(void) {{\n{body}}}\n")
+}
+
 #[test]
 fn a_metaproduct_runs_as_each_variant(rt: HostRuntime) -> Result<(), Fail> {
-    let without_x = "int putchar(int);\nint main(void) {\n#ifdef A\n    putchar(65);\n#endif\n}\n";
     let model = read_model(rt.alloc(), MODEL_A.as_bytes())?;
-    for (source, with_option, without) in [(PUTS_X_AND_A, "xA", "x"), (without_x, "A", "")] {
-        let ended = encode(rt.alloc(), MODEL_A, source)?;
+    // The outputs without the option and with it.
+    let table = [
+        (
+            "    putchar(120);\n#ifdef A\n    putchar(65);\n#endif\n",
+            ["x", "xA"],
+        ),
+        ("#ifdef A\n    putchar(65);\n#endif\n", ["", "A"]),
+    ];
+    let configurations = [[false], [true]];
+    for (body, outputs) in table {
+        let ended = encode(rt.alloc(), MODEL_A, with_body(rt.alloc(), body)?.as_str())?;
         assert_eq!(rt; ended.status, 0);
         assert_eq!(rt; ended.err.bytes().len(), 0);
-        for (value, wanted) in [(true, with_option), (false, without)] {
-            let got = output(rt.alloc(), &model, ended.out.bytes(), &[value])?;
+        for (values, wanted) in configurations.iter().zip(outputs) {
+            let got = output(rt.alloc(), &model, ended.out.bytes(), values)?;
             assert_eq!(rt;
                 got.as_ref().map(|text| text.as_slice()),
-                Some(wanted.as_bytes())
+                Some(wanted.as_bytes()),
+                "at {body:?}"
             );
         }
     }
     Ok(())
-}
-
-/// The body stands within the two lines at the head and the last one.
-fn with_body(alloc: Global, body: &str) -> Result<String, AllocError> {
-    format!(in alloc; "int putchar(int);\nint main(void) {{\n{body}}}\n")
 }
 
 #[test]
