@@ -1,0 +1,4 @@
+pub mod Branches
+pub mod Canonical
+pub mod Lifts
+pub mod Tables

@@ -1,0 +1,31 @@
+use Rattle.std.proofs.Common.{rules, ◌≡◌, ◌≢◌, ℕ, ◌+◌, ◌-◌, ◌<◌, ◌≤◌, [], ◌∷◌, ◌++◌, List, Bool, true, false, cond, Option, Some, None, refl, sym, ap, ◌∙◌, subst, arith, length, get_or}
+use Rattle.hv_cond.specs.declared.conditions.Cond.{Cond}
+use Rattle.hv_cond.specs.declared.nodes.Decision.{Decision}
+use Rattle.hv_cond.specs.declared.nodes.Nodes.{Nodes}
+use Rattle.hv_cond.specs.Diagram.{IsNode, holds, node, size, value_of, top, node_in, holds_in}
+use Rattle.hv_cond.specs.Nodes.{diagram, level, newest_first, place_of, Extends, IsBranch, IsDecision, IsHalves, IsReduced}
+use Rattle.hv_cond.proofs.Branches.{placed}
+use Rattle.hv_cond.proofs.Tables.{Extends-push, meaning-push}
+use Rattle.hv_cond.proofs.nodes.Nodes.branch.Goals as goal
+
+pub returns-in-Some-clause-node : goal.returns-in-Some-clause-node
+returns-in-Some-clause-node c =
+    let s = c.args.self.now in
+    let d : Decision = record { variable = c.args.variable; low = c.args.low; high = c.args.high } in
+    (placed s.variables (newest_first s) c.requires.reduced.ordered d c.in-Some.place (sym c.in-Some.ensures)).0
+
+pub returns-in-Some-clause-meaning : goal.returns-in-Some-clause-meaning
+returns-in-Some-clause-meaning c =
+    let s = c.args.self.now in
+    let d : Decision = record { variable = c.args.variable; low = c.args.low; high = c.args.high } in
+    (placed s.variables (newest_first s) c.requires.reduced.ordered d c.in-Some.place (sym c.in-Some.ensures)).1.meaning
+
+pub returns-in-None-clause-extends : goal.returns-in-None-clause-extends
+returns-in-None-clause-extends c =
+    let d : Decision = record { variable = c.args.variable; low = c.args.low; high = c.args.high } in
+    Extends-push c.args.self.now c.push.new.self d c.push.result c.push.ensures.variables c.push.ensures.ok c.push.ensures.err
+
+pub returns-in-None-clause-meaning : goal.returns-in-None-clause-meaning
+returns-in-None-clause-meaning c =
+    let d : Decision = record { variable = c.args.variable; low = c.args.low; high = c.args.high } in
+    meaning-push c.args.self.now c.push.new.self d c.push.result c.push.ensures.ok c.push.ensures.place

@@ -1,0 +1,8 @@
+//! Conditions: Boolean functions of a fixed number of variables, kept as reduced ordered binary
+//! decision diagrams, so that equal functions are one node.
+#![tactic(auto)]
+
+mod conditions;
+mod nodes;
+
+pub use conditions::{Cond, Node};
