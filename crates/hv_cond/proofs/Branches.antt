@@ -188,3 +188,12 @@ level-le n (d ∷ older) o c = let older_le = level-le n older o.1 c in let in_r
 pub branch_at_level : (n : ℕ) (ds : List Decision) → IsOrdered n ds → (c : Cond) → c.index < top ds → level n ds c < n → (d : Decision) × IsBranch n ds c d
 branch_at_level n ds o c l below =
     branch_of n ds o c l (⊎_elim (λ (t : c.index < 2). let e = level-terminal n ds c t in absurd (omega arith)) (λ t. t) (cases_lt c.index 2))
+
+-- a branch depends on a variable
+pub level-branch : (n : ℕ) (ds : List Decision) → IsOrdered n ds → (c : Cond) → c.index < top ds → 2 ≤ c.index → level n ds c < n
+level-branch n ds o c l t =
+    let found = branch_of n ds o c l t in
+    let f : IsBranch n ds c found.0 = found.1 in
+    let e = f.level_is in
+    let b = f.in_range in
+    omega arith

@@ -1,4 +1,6 @@
 pub mod Branches
 pub mod Canonical
+pub mod Combining
+pub mod Counts
 pub mod Lifts
 pub mod Tables

@@ -3,7 +3,7 @@ use Rattle.std.proofs.Common.{Result, Ok, Err, OnOk, OnErr, IfOk, ◌≡◌, ◌
 use Rattle.std.specs.HashMap.{get}
 use Rattle.std.specs.declared.alloc.AllocError.{AllocError}
 use Rattle.std.proofs.lemmas.Bool.{cond-true, cond-false, cond_both, cases_eq}
-use Rattle.std.proofs.lemmas.List.{get_or-reverse, reverse-append, length-reverse}
+use Rattle.std.proofs.lemmas.List.{get_or-reverse, reverse-append, length-reverse, append_assoc}
 use Rattle.std.proofs.lemmas.Grind.{get_or_head, get_or_tail}
 use Rattle.hv_cond.specs.declared.conditions.Cond.{Cond}
 use Rattle.hv_cond.specs.declared.conditions.Node.{Node}
@@ -11,7 +11,8 @@ use Rattle.hv_cond.specs.declared.conditions.Node.TheVariants.{Truth, Falsity, B
 use Rattle.hv_cond.specs.declared.nodes.Decision.{Decision}
 use Rattle.hv_cond.specs.declared.nodes.Nodes.{Nodes}
 use Rattle.hv_cond.specs.Diagram.{top, value_of, node_in, holds_in}
-use Rattle.hv_cond.specs.Nodes.{newest_first, level, place_of, same_decision, IsDecision, IsOrdered, IsBranch, IsHalves, IsReduced, diagram, Extends}
+use Rattle.hv_cond.specs.Nodes.{newest_first, level, place_of, same_decision, IsDecision, IsOrdered, IsBranch, IsHalves, IsReduced, IsClosed, diagram, Extends}
+use Rattle.hv_cond.proofs.Lifts.{node_lifts, holds_in-append, node_in-append, level-append, IsClosed-append}
 use Rattle.hv_cond.proofs.Branches.{Decision-same, Cond-same, node_in-top, node_in-below, holds_in-top, choice, branch_of, level-terminal}
 
 -- a node that is no terminal is the branch at its place
@@ -102,3 +103,29 @@ IsHalves-branch n ds c d t f =
     high_later = f.high_later;
     meaning = f.meaning;
     within = λ xs closed w. closed.children c d.variable d.low d.high (w t) f.is; }
+
+-- what stays in a table that extends another
+pub Extends-refl : (old : Nodes) → Extends old old
+Extends-refl old = record { variables = refl; added = []; decisions = refl }
+
+pub Extends-trans : (old mid new : Nodes) → Extends old mid → Extends mid new → Extends old new
+Extends-trans old mid new e f =
+    record {
+    variables = f.variables ∙ e.variables;
+    added = f.added ++ e.added;
+    decisions = f.decisions ∙ ap (λ (ds : List Decision). f.added ++ ds) e.decisions ∙ sym (append_assoc f.added e.added (newest_first old)); }
+
+pub Extends-node : {old new : Nodes} → Extends old new → (c : Cond) → c.index < top (newest_first old) → c.index < top (newest_first new)
+Extends-node {old} {new} e c l = rw e.decisions (node_lifts e.added (newest_first old) c l)
+
+pub Extends-holds : {old new : Nodes} → Extends old new → (c : Cond) (v : List Bool) → c.index < top (newest_first old) → holds_in (newest_first new) c v ≡ holds_in (newest_first old) c v
+Extends-holds {old} {new} e c v l = rw e.decisions (holds_in-append e.added (newest_first old) c v l)
+
+pub Extends-node_in : {old new : Nodes} → Extends old new → (c : Cond) → c.index < top (newest_first old) → node_in (newest_first new) c ≡ node_in (newest_first old) c
+Extends-node_in {old} {new} e c l = rw e.decisions (node_in-append e.added (newest_first old) c l)
+
+pub Extends-level : {old new : Nodes} → Extends old new → (c : Cond) → c.index < top (newest_first old) → level new.variables (newest_first new) c ≡ level old.variables (newest_first old) c
+Extends-level {old} {new} e c l = rw (e.decisions, e.variables) (level-append old.variables e.added (newest_first old) c l)
+
+pub Extends-closed : {old new : Nodes} → Extends old new → (xs : List Cond) → IsClosed (newest_first old) xs → IsClosed (newest_first new) xs
+Extends-closed {old} {new} e xs closed = rw e.decisions (IsClosed-append e.added (newest_first old) xs closed)

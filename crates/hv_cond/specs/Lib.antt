@@ -1,2 +1,4 @@
+pub mod Connectives
 pub mod Diagram
 pub mod Nodes
+pub mod Results

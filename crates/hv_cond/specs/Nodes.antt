@@ -39,6 +39,14 @@ pub record IsDecision (variables : ℕ) (older : List Decision) (d : Decision) :
   pub high_later : d.variable < level variables older d.high
   pub fresh : place_of older d ≡ None
 
+-- a branch of these halves may stand in the table, unless they are the same
+pub record MayBranch (nodes : Nodes) (variable : ℕ) (low high : Cond) : Type 0 where
+  pub in_range : variable < nodes.variables
+  pub low_node : low.index < top (newest_first nodes)
+  pub high_node : high.index < top (newest_first nodes)
+  pub low_later : variable < level nodes.variables (newest_first nodes) low
+  pub high_later : variable < level nodes.variables (newest_first nodes) high
+
 -- each branch may stand before the older ones
 abbrev pub IsOrdered : ℕ → List Decision → Type 0
 IsOrdered variables [] = Unit {0}

@@ -3,6 +3,8 @@
 #![tactic(auto)]
 
 mod conditions;
+mod connectives;
 mod nodes;
+mod results;
 
 pub use conditions::{Cond, Node};

@@ -1,7 +1,7 @@
 //! The table of nodes, in which no branch is superfluous and none stands twice.
 ghost use Rattle.std.specs.Prelude.{◌≡◌, ◌≢◌, ℕ, ◌+◌, ◌<◌, ◌≤◌, [], ◌∷◌, ◌++◌, List, Bool, is_ok, length, if◌then◌else◌, IfNone, IfOk, IfSome, OnErr, OnOk};
 ghost use Rattle.hv_cond.specs.Diagram.{IsNode, holds, node, size, top, value_of};
-ghost use Rattle.hv_cond.specs.Nodes.{diagram, level, newest_first, place_of, Extends, IsBranch, IsDecision, IsHalves, IsReduced};
+ghost use Rattle.hv_cond.specs.Nodes.{diagram, level, newest_first, place_of, Extends, IsBranch, IsDecision, IsHalves, IsReduced, MayBranch};
 
 use crate::conditions::{Cond, Node};
 use std::alloc::{AllocError, Global};
@@ -98,15 +98,12 @@ impl Nodes {
     /// The condition that means `high` where the variable is true, and `low` where it is not.
     pub(crate) fn branch(&mut self, variable: u32, low: Cond, high: Cond) -> Result<Cond, AllocError>
         requires reduced { IsReduced self.old }
-        requires in_range { variable < self.old.variables }
-        requires low_node { IsNode (diagram self.old) low }
-        requires high_node { IsNode (diagram self.old) high }
-        requires low_later { variable < level self.old.variables (newest_first self.old) low }
-        requires high_later { variable < level self.old.variables (newest_first self.old) high }
+        requires may_branch { MayBranch self.old variable low high }
 
         ensures reduced { IsReduced self.new }
         ensures extends { Extends self.old self.new }
         ensures grows { size (diagram self.new) ≤ size (diagram self.old) + 1 }
+        ensures err { OnErr result (size (diagram self.new) ≡ size (diagram self.old)) }
         ensures node { IfOk result (IsNode (diagram self.new)) }
         ensures meaning { IfOk result (λ c. (v : List Bool) → holds (diagram self.new) c v ≡ (if value_of v variable then holds (diagram self.old) high v else holds (diagram self.old) low v)) }
     {
