@@ -197,3 +197,12 @@ level-branch n ds o c l t =
     let e = f.level_is in
     let b = f.in_range in
     omega arith
+
+-- a branch is no terminal
+pub branch_index : {n : ℕ} {ds : List Decision} {c : Cond} {d : Decision} → IsBranch n ds c d → 2 ≤ c.index
+branch_index {c} {d} f =
+    ⊎_elim (λ (l : c.index < 2).
+      let low = f.low_older in
+      let high = f.high_older in
+      absurd (f.different (Cond-same d.low d.high (omega arith))))
+    (λ (t : 2 ≤ c.index). t) (cases_lt c.index 2)

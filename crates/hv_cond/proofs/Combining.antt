@@ -273,7 +273,7 @@ later_lifts : {old new : Nodes} → Extends old new → (c : Cond) (i : ℕ) →
 later_lifts e c i l h = let same = Extends-level e c l in omega arith
 
 -- the answers of the halves may be halves of a branch
-pub halves_may_branch : (k : Connective) (old mid new : Nodes) (a b : Cond) (i : ℕ) (low high : Cond) → HalvesAnswered k old mid new a b i low high → MayBranch new i low high
+pub halves_may_branch : (k : Connective) (old mid new : Nodes) (a b : Cond) (i : ℕ) (low high : Cond) → HalvesAnswered k old mid new a b i low high → MayBranch new (record { variable = i; low = low; high = high })
 halves_may_branch k old mid new a b i low high h =
     let first = h.first in
     let second = h.second in

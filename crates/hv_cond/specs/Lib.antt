@@ -1,3 +1,4 @@
+pub mod Complements
 pub mod Connectives
 pub mod Diagram
 pub mod Nodes

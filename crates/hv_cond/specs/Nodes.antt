@@ -39,13 +39,13 @@ pub record IsDecision (variables : ℕ) (older : List Decision) (d : Decision) :
   pub high_later : d.variable < level variables older d.high
   pub fresh : place_of older d ≡ None
 
--- a branch of these halves may stand in the table, unless they are the same
-pub record MayBranch (nodes : Nodes) (variable : ℕ) (low high : Cond) : Type 0 where
-  pub in_range : variable < nodes.variables
-  pub low_node : low.index < top (newest_first nodes)
-  pub high_node : high.index < top (newest_first nodes)
-  pub low_later : variable < level nodes.variables (newest_first nodes) low
-  pub high_later : variable < level nodes.variables (newest_first nodes) high
+-- a branch may stand in the table, unless it is superfluous or stands there already
+pub record MayBranch (nodes : Nodes) (d : Decision) : Type 0 where
+  pub in_range : d.variable < nodes.variables
+  pub low_node : d.low.index < top (newest_first nodes)
+  pub high_node : d.high.index < top (newest_first nodes)
+  pub low_later : d.variable < level nodes.variables (newest_first nodes) d.low
+  pub high_later : d.variable < level nodes.variables (newest_first nodes) d.high
 
 -- each branch may stand before the older ones
 abbrev pub IsOrdered : ℕ → List Decision → Type 0

@@ -8,7 +8,7 @@ ghost use Rattle.hv_cond.specs.Results.{known};
 ghost use Rattle.hv_cond.specs.Connectives.{absorbing, neutral, apply, AreAnswers, Grows, IsAnswer};
 
 use crate::conditions::Cond;
-use crate::nodes::Nodes;
+use crate::nodes::{Decision, Nodes};
 use crate::results::Results;
 use std::alloc::AllocError;
 
@@ -84,20 +84,12 @@ pub(crate) fn combine(
     let (b_low, b_high) = nodes.halves(b, variable);
     let low = combine(nodes, results, connective, a_low, b_low)?;
     let high = combine(nodes, results, connective, a_high, b_high)?;
-    let halves = Halves {
+    let halves = Decision {
         variable,
         low,
         high,
     };
     enter(nodes, results, connective, a, b, halves)
-}
-
-/// The two halves of an answer.
-#[derive(Clone, Copy)]
-struct Halves {
-    variable: u32,
-    low: Cond,
-    high: Cond,
 }
 
 /// Makes the answer of its two halves, and keeps it.
@@ -107,7 +99,7 @@ fn enter(
     connective: Connective,
     a: Cond,
     b: Cond,
-    halves: Halves,
+    halves: Decision,
 ) -> Result<Cond, AllocError>
     requires reduced { IsReduced nodes.old }
     requires answers { AreAnswers connective (newest_first nodes.old) results.old }
@@ -116,14 +108,14 @@ fn enter(
     requires first_branch { 2 ≤ a.index }
     requires second_branch { 2 ≤ b.index }
     requires unknown { known results.old a b ≡ None }
-    requires may_branch { MayBranch nodes.old halves.variable halves.low halves.high }
+    requires may_branch { MayBranch nodes.old halves }
     requires meaning { (v : List Bool) → (if value_of v halves.variable then holds (diagram nodes.old) halves.high v else holds (diagram nodes.old) halves.low v) ≡ apply connective (holds (diagram nodes.old) a v) (holds (diagram nodes.old) b v) }
 
     ensures grows { Grows connective nodes.old nodes.new results.old results.new a b }
     ensures answer { IfOk result (IsAnswer connective (newest_first nodes.new) a b) }
 {
     results.make_room()?;
-    let answer = nodes.branch(halves.variable, halves.low, halves.high)?;
+    let answer = nodes.branch(halves)?;
     results.record(a, b, answer);
     Ok(answer)
 }

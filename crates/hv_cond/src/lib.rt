@@ -2,6 +2,7 @@
 //! decision diagrams, so that equal functions are one node.
 #![tactic(auto)]
 
+mod complements;
 mod conditions;
 mod connectives;
 mod nodes;

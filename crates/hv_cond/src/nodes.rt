@@ -95,26 +95,21 @@ impl Nodes {
         }
     }
 
-    /// The condition that means `high` where the variable is true, and `low` where it is not.
-    pub(crate) fn branch(&mut self, variable: u32, low: Cond, high: Cond) -> Result<Cond, AllocError>
+    /// The condition that a branch means, entered only if it is neither superfluous nor known.
+    pub(crate) fn branch(&mut self, decision: Decision) -> Result<Cond, AllocError>
         requires reduced { IsReduced self.old }
-        requires may_branch { MayBranch self.old variable low high }
+        requires may_branch { MayBranch self.old decision }
 
         ensures reduced { IsReduced self.new }
         ensures extends { Extends self.old self.new }
         ensures grows { size (diagram self.new) ≤ size (diagram self.old) + 1 }
         ensures err { OnErr result (size (diagram self.new) ≡ size (diagram self.old)) }
         ensures node { IfOk result (IsNode (diagram self.new)) }
-        ensures meaning { IfOk result (λ c. (v : List Bool) → holds (diagram self.new) c v ≡ (if value_of v variable then holds (diagram self.old) high v else holds (diagram self.old) low v)) }
+        ensures meaning { IfOk result (λ c. (v : List Bool) → holds (diagram self.new) c v ≡ (if value_of v decision.variable then holds (diagram self.old) decision.high v else holds (diagram self.old) decision.low v)) }
     {
-        if low == high {
-            return Ok(low);
+        if decision.low == decision.high {
+            return Ok(decision.low);
         }
-        let decision = Decision {
-            variable,
-            low,
-            high,
-        };
         match self.find(&decision) {
             Some(place) => Ok(place),
             None => self.push(decision),
