@@ -1,9 +1,8 @@
 -- Lemmas on lists of branches, the newest first.
-use Rattle.std.proofs.Common.{◌≡◌, ◌≢◌, ◌==◌, ◌+◌, ◌-◌, ◌<◌, ◌≤◌, ℕ, Bool, true, false, cond, ◌&&◌, List, [], ◌∷◌, ◌++◌, length, get_or, Option, Some, None, refl, sym, ap, ◌∙◌, subst, inl, inr, ⊎_elim, arith, eq-eqb, set}
+use Rattle.std.proofs.Common.{◌≡◌, ◌≢◌, ◌==◌, ◌<◌, ◌≤◌, ℕ, Bool, true, false, cond, ◌&&◌, List, [], ◌∷◌, Some, None, refl, sym, ap, ◌∙◌, subst, ⊎_elim, arith, eq-eqb, set}
 use Rattle.std.proofs.lemmas.Bool.{cond-true, cond-false, cond_both, ne_eqb, eqb-true, cases_eq, cases_lt, and_parts, and_from, cases_Bool}
-use Rattle.std.proofs.lemmas.List.{get_or-set_same, get_or-set_other}
+use Rattle.std.proofs.lemmas.List.{get_or-set_other}
 use Rattle.hv_cond.specs.declared.conditions.Cond.{Cond}
-use Rattle.hv_cond.specs.declared.conditions.Node.{Node}
 use Rattle.hv_cond.specs.declared.conditions.Node.TheVariants.{Truth, Falsity, Branch}
 use Rattle.hv_cond.specs.declared.nodes.Decision.{Decision}
 use Rattle.hv_cond.specs.Diagram.{top, value_of, node_in, holds_in}
@@ -17,7 +16,7 @@ pub Cond-same : (a b : Cond) → a.index ≡ b.index → a ≡ b
 Cond-same a b e = ap (λ (i : ℕ). let c : Cond = record { index = i } in c) e
 
 -- a node among the older branches is not the one before them
-apart : (c : Cond) (older : List Decision) → c.index < top older → (c.index == top older) ≡ false
+pub apart : (c : Cond) (older : List Decision) → c.index < top older → (c.index == top older) ≡ false
 apart c older l = ne_eqb c.index (top older) (λ (e : c.index ≡ top older). omega arith)
 
 pub holds_in-top : (d : Decision) (older : List Decision) (c : Cond) (v : List Bool) → c.index ≡ top older → holds_in (d ∷ older) c v ≡ choice older d v
@@ -97,16 +96,17 @@ IsBranch-top : (n : ℕ) (d : Decision) (older : List Decision) → IsDecision n
 unfolding place_of
 IsBranch-top n d older o c e =
     record {
-    is = node_in-top d older c e;
-    in_range = o.in_range;
-    low_older = let h = o.low_older in omega arith;
-    high_older = let h = o.high_older in omega arith;
-    different = o.different;
-    level_is = level-top n d older c e;
-    low_later = later-lifts n d older d.low _ o.low_older o.low_later;
-    high_later = later-lifts n d older d.high _ o.high_older o.high_later;
-    meaning = λ v. holds_in-top d older c v e ∙ sym (choice-lifts d older d v o.low_older o.high_older);
-    placed = cond-true _ _ _ (same_decision-self d) ∙ ap Some (Cond-same _ _ (sym e)); }
+      is = node_in-top d older c e;
+      in_range = o.in_range;
+      low_older = let h = o.low_older in omega arith;
+      high_older = let h = o.high_older in omega arith;
+      different = o.different;
+      level_is = level-top n d older c e;
+      low_later = later-lifts n d older d.low _ o.low_older o.low_later;
+      high_later = later-lifts n d older d.high _ o.high_older o.high_later;
+      meaning = λ v. holds_in-top d older c v e ∙ sym (choice-lifts d older d v o.low_older o.high_older);
+      placed = cond-true _ _ _ (same_decision-self d) ∙ ap Some (Cond-same _ _ (sym e));
+    }
 
 -- an older branch stays one
 IsBranch-below : (n : ℕ) (d : Decision) (older : List Decision) → place_of older d ≡ None → (c : Cond) (e : Decision) → c.index < top older → IsBranch n older c e → IsBranch n (d ∷ older) c e
@@ -115,16 +115,17 @@ IsBranch-below n d older fresh c e below f =
     let low : e.low.index < top older = (let h = f.low_older in omega arith) in
     let high : e.high.index < top older = (let h = f.high_older in omega arith) in
     record {
-    is = node_in-below d older c below ∙ f.is;
-    in_range = f.in_range;
-    low_older = f.low_older;
-    high_older = f.high_older;
-    different = f.different;
-    level_is = level-below n d older c below ∙ f.level_is;
-    low_later = later-lifts n d older e.low _ low f.low_later;
-    high_later = later-lifts n d older e.high _ high f.high_later;
-    meaning = λ v. holds_in-below d older c v below ∙ f.meaning v ∙ sym (choice-lifts d older e v low high);
-    placed = cond-false _ _ _ (fresh_apart d older e fresh f.placed) ∙ f.placed; }
+      is = node_in-below d older c below ∙ f.is;
+      in_range = f.in_range;
+      low_older = f.low_older;
+      high_older = f.high_older;
+      different = f.different;
+      level_is = level-below n d older c below ∙ f.level_is;
+      low_later = later-lifts n d older e.low _ low f.low_later;
+      high_later = later-lifts n d older e.high _ high f.high_later;
+      meaning = λ v. holds_in-below d older c v below ∙ f.meaning v ∙ sym (choice-lifts d older e v low high);
+      placed = cond-false _ _ _ (fresh_apart d older e fresh f.placed) ∙ f.placed;
+    }
 
 -- each node that is no terminal is a branch
 pub branch_of : (n : ℕ) (ds : List Decision) → IsOrdered n ds → (c : Cond) → c.index < top ds → 2 ≤ c.index → (d : Decision) × IsBranch n ds c d
@@ -132,9 +133,9 @@ branch_of n [] o c l t = absurd (omega arith)
 branch_of n (d ∷ older) o c l t =
     ⊎_elim (λ (e : c.index ≡ top older). (d, IsBranch-top n d older o.0 c e))
     (λ (ne : c.index ≡ top older → ⊥).
-      let below : c.index < top older = omega arith in
-      let found = branch_of n older o.1 c below t in
-      (found.0, IsBranch-below n d older o.0.fresh c found.0 below found.1))
+    let below : c.index < top older = omega arith in
+    let found = branch_of n older o.1 c below t in
+    (found.0, IsBranch-below n d older o.0.fresh c found.0 below found.1))
     (cases_eq c.index (top older))
 
 none_some : (c : Cond) → None ≡ Some c → ⊥
@@ -147,16 +148,16 @@ placed n [] o d c at = absurd (none_some c at)
 placed n (e ∷ older) o d c at =
     let t : Cond = record { index = top older } in
     ⊎_elim (λ (s : same_decision e d ≡ true).
-      let same : e ≡ d = same_decision-from e d s in
-      let found : cond (same_decision e d) (Some t) (place_of older d) ≡ Some t = cond-true _ _ _ s in
-      let here : c ≡ t = (let both : Some c ≡ Some t = sym at ∙ found in cc) in
-      let index : c.index ≡ top older = ap (λ (x : Cond). x.index) here in
-      (omega arith, subst (IsBranch n (e ∷ older) c) same (IsBranch-top n e older o.0 c index)))
+    let same : e ≡ d = same_decision-from e d s in
+    let found : cond (same_decision e d) (Some t) (place_of older d) ≡ Some t = cond-true _ _ _ s in
+    let here : c ≡ t = (let both : Some c ≡ Some t = sym at ∙ found in cc) in
+    let index : c.index ≡ top older = ap (λ (x : Cond). x.index) here in
+    (omega arith, subst (IsBranch n (e ∷ older) c) same (IsBranch-top n e older o.0 c index)))
     (λ (f : same_decision e d ≡ false).
-      let found : place_of older d ≡ Some c = sym (cond-false (same_decision e d) (Some t) (place_of older d) f) ∙ at in
-      let inner = placed n older o.1 d c found in
-      let below = inner.0 in
-      (omega arith, IsBranch-below n e older o.0.fresh c d below inner.1))
+    let found : place_of older d ≡ Some c = sym (cond-false (same_decision e d) (Some t) (place_of older d) f) ∙ at in
+    let inner = placed n older o.1 d c found in
+    let below = inner.0 in
+    (omega arith, IsBranch-below n e older o.0.fresh c d below inner.1))
     (cases_Bool (same_decision e d))
 
 -- no condition depends on a variable before its level
@@ -164,18 +165,18 @@ pub holds_in-set : (n : ℕ) (ds : List Decision) → IsOrdered n ds → (c : Co
 holds_in-set n [] o c l i before v b = holds_in-terminal [] c (set v i b) l ∙ sym (holds_in-terminal [] c v l)
 holds_in-set n (d ∷ older) o c l i before v b =
     ⊎_elim (λ (e : c.index ≡ top older).
-      let at : level n (d ∷ older) c ≡ d.variable = level-top n d older c e in
-      let low_later = o.0.low_later in
-      let high_later = o.0.high_later in
-      let low = holds_in-set n older o.1 d.low o.0.low_older i (omega arith) v b in
-      let high = holds_in-set n older o.1 d.high o.0.high_older i (omega arith) v b in
-      let other : d.variable ≢ i = omega arith in
-      let value : value_of (set v i b) d.variable ≡ value_of v d.variable = get_or-set_other v i d.variable b false other in
-      holds_in-top d older c (set v i b) e ∙ rw (value, low, high) refl ∙ sym (holds_in-top d older c v e))
+    let at : level n (d ∷ older) c ≡ d.variable = level-top n d older c e in
+    let low_later = o.0.low_later in
+    let high_later = o.0.high_later in
+    let low = holds_in-set n older o.1 d.low o.0.low_older i (omega arith) v b in
+    let high = holds_in-set n older o.1 d.high o.0.high_older i (omega arith) v b in
+    let other : d.variable ≢ i = omega arith in
+    let value : value_of (set v i b) d.variable ≡ value_of v d.variable = get_or-set_other v i d.variable b false other in
+    holds_in-top d older c (set v i b) e ∙ rw (value, low, high) refl ∙ sym (holds_in-top d older c v e))
     (λ (ne : c.index ≡ top older → ⊥).
-      let below : c.index < top older = omega arith in
-      let at = level-below n d older c below in
-      holds_in-below d older c (set v i b) below ∙ holds_in-set n older o.1 c below i (omega arith) v b ∙ sym (holds_in-below d older c v below))
+    let below : c.index < top older = omega arith in
+    let at = level-below n d older c below in
+    holds_in-below d older c (set v i b) below ∙ holds_in-set n older o.1 c below i (omega arith) v b ∙ sym (holds_in-below d older c v below))
     (cases_eq c.index (top older))
 
 -- the level of a condition is at most the number of variables
@@ -202,7 +203,7 @@ level-branch n ds o c l t =
 pub branch_index : {n : ℕ} {ds : List Decision} {c : Cond} {d : Decision} → IsBranch n ds c d → 2 ≤ c.index
 branch_index {c} {d} f =
     ⊎_elim (λ (l : c.index < 2).
-      let low = f.low_older in
-      let high = f.high_older in
-      absurd (f.different (Cond-same d.low d.high (omega arith))))
+    let low = f.low_older in
+    let high = f.high_older in
+    absurd (f.different (Cond-same d.low d.high (omega arith))))
     (λ (t : 2 ≤ c.index). t) (cases_lt c.index 2)

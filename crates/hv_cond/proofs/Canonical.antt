@@ -1,13 +1,13 @@
 -- In an ordered list of branches, conditions that mean the same are the same.
-use Rattle.std.proofs.Common.{◌≡◌, ◌≢◌, ◌==◌, ◌+◌, ◌-◌, ◌<◌, ◌≤◌, ℕ, Bool, true, false, cond, List, [], ◌∷◌, length, replicate, Option, Some, None, refl, sym, ap, ◌∙◌, subst, inl, inr, ⊎_elim, arith, eq-eqb, set}
-use Rattle.std.proofs.lemmas.Bool.{cond-true, cond-false, ne_eqb, eqb-true, cases_eq, cases_lt}
+use Rattle.std.proofs.Common.{◌≡◌, ◌≢◌, ◌==◌, ◌<◌, ◌≤◌, ℕ, Bool, true, false, List, [], ◌∷◌, length, replicate, Some, refl, sym, ap, ◌∙◌, ⊎_elim, arith, set}
+use Rattle.std.proofs.lemmas.Bool.{cond-true, cond-false, cases_eq, cases_lt}
 use Rattle.std.proofs.lemmas.Bool.Decides.{nat_tests}
 use Rattle.std.proofs.lemmas.List.{get_or-set_same, get_or-set_other, length-set, length-replicate}
 use Rattle.hv_cond.specs.declared.conditions.Cond.{Cond}
 use Rattle.hv_cond.specs.declared.nodes.Decision.{Decision}
 use Rattle.hv_cond.specs.Diagram.{top, value_of, holds_in}
 use Rattle.hv_cond.specs.Nodes.{level, place_of, IsDecision, IsOrdered, IsBranch}
-use Rattle.hv_cond.proofs.Branches.{choice, Cond-same, Decision-same, holds_in-top, holds_in-below, holds_in-terminal, holds_in-set, branch_of, branch_at_level}
+use Rattle.hv_cond.proofs.Branches.{choice, Cond-same, Decision-same, holds_in-top, holds_in-below, holds_in-terminal, holds_in-set, branch_at_level}
 
 -- the two terminals differ
 same_terminal : (i j : ℕ) → i < 2 → j < 2 → (i == 1) ≡ (j == 1) → i ≡ j
@@ -52,9 +52,9 @@ Repeats n ds d b = (v : List Bool) → length v ≡ n → choice ds d v ≡ hold
 apart_later : (n : ℕ) (ds : List Decision) → IsOrdered n ds → IsCanonical n ds → (d : Decision) → IsDecision n ds d → (b : Cond) → b.index < top ds → Repeats n ds d b → d.variable < level n ds b → ⊥
 apart_later n ds o canonical d od b node same later =
     let low : d.low ≡ b = canonical d.low b od.low_older node (λ v len.
-      sym (low_half n ds o d od.low_older od.in_range od.low_later v len) ∙ same (set v d.variable false) (length-set v d.variable false ∙ len) ∙ holds_in-set n ds o b node d.variable later v false) in
+    sym (low_half n ds o d od.low_older od.in_range od.low_later v len) ∙ same (set v d.variable false) (length-set v d.variable false ∙ len) ∙ holds_in-set n ds o b node d.variable later v false) in
     let high : d.high ≡ b = canonical d.high b od.high_older node (λ v len.
-      sym (high_half n ds o d od.high_older od.in_range od.high_later v len) ∙ same (set v d.variable true) (length-set v d.variable true ∙ len) ∙ holds_in-set n ds o b node d.variable later v true) in
+    sym (high_half n ds o d od.high_older od.in_range od.high_later v len) ∙ same (set v d.variable true) (length-set v d.variable true ∙ len) ∙ holds_in-set n ds o b node d.variable later v true) in
     od.different (low ∙ sym high)
 
 -- no new branch means an older one of its variable
@@ -63,11 +63,11 @@ apart_here n ds o canonical d od b node same e f ev =
     let e_low : e.low.index < top ds = let h = f.low_older in omega arith in
     let e_high : e.high.index < top ds = let h = f.high_older in omega arith in
     let low : d.low ≡ e.low = canonical d.low e.low od.low_older e_low (λ v len.
-      sym (low_half n ds o d od.low_older od.in_range od.low_later v len) ∙ same (set v d.variable false) (length-set v d.variable false ∙ len) ∙ f.meaning (set v d.variable false)
-      ∙ ap (λ (i : ℕ). choice ds e (set v i false)) (sym ev) ∙ low_half n ds o e e_low f.in_range f.low_later v len) in
+    sym (low_half n ds o d od.low_older od.in_range od.low_later v len) ∙ same (set v d.variable false) (length-set v d.variable false ∙ len) ∙ f.meaning (set v d.variable false)
+    ∙ ap (λ (i : ℕ). choice ds e (set v i false)) (sym ev) ∙ low_half n ds o e e_low f.in_range f.low_later v len) in
     let high : d.high ≡ e.high = canonical d.high e.high od.high_older e_high (λ v len.
-      sym (high_half n ds o d od.high_older od.in_range od.high_later v len) ∙ same (set v d.variable true) (length-set v d.variable true ∙ len) ∙ f.meaning (set v d.variable true)
-      ∙ ap (λ (i : ℕ). choice ds e (set v i true)) (sym ev) ∙ high_half n ds o e e_high f.in_range f.high_later v len) in
+    sym (high_half n ds o d od.high_older od.in_range od.high_later v len) ∙ same (set v d.variable true) (length-set v d.variable true ∙ len) ∙ f.meaning (set v d.variable true)
+    ∙ ap (λ (i : ℕ). choice ds e (set v i true)) (sym ev) ∙ high_half n ds o e e_high f.in_range f.high_later v len) in
     let same_branch : d ≡ e = Decision-same d e (sym ev) low high in
     let placed : place_of ds d ≡ Some b = ap (place_of ds) same_branch ∙ f.placed in
     let fresh = od.fresh in
@@ -79,22 +79,22 @@ apart_before n ds o canonical d od b node same e f before =
     let e_low : e.low.index < top ds = let h = f.low_older in omega arith in
     let e_high : e.high.index < top ds = let h = f.high_older in omega arith in
     f.different (canonical e.low e.high e_low e_high (λ v len.
-      sym (low_half n ds o e e_low f.in_range f.low_later v len) ∙ sym (f.meaning (set v e.variable false)) ∙ sym (same (set v e.variable false) (length-set v e.variable false ∙ len))
-      ∙ choice-set n ds o d od e.variable before v false ∙ sym (choice-set n ds o d od e.variable before v true)
-      ∙ same (set v e.variable true) (length-set v e.variable true ∙ len) ∙ f.meaning (set v e.variable true) ∙ high_half n ds o e e_high f.in_range f.high_later v len))
+    sym (low_half n ds o e e_low f.in_range f.low_later v len) ∙ sym (f.meaning (set v e.variable false)) ∙ sym (same (set v e.variable false) (length-set v e.variable false ∙ len))
+    ∙ choice-set n ds o d od e.variable before v false ∙ sym (choice-set n ds o d od e.variable before v true)
+    ∙ same (set v e.variable true) (length-set v e.variable true ∙ len) ∙ f.meaning (set v e.variable true) ∙ high_half n ds o e e_high f.in_range f.high_later v len))
 
 -- no new branch means an older condition
 apart_from_older : (n : ℕ) (ds : List Decision) → IsOrdered n ds → IsCanonical n ds → (d : Decision) → IsDecision n ds d → (b : Cond) → b.index < top ds → Repeats n ds d b → ⊥
 apart_from_older n ds o canonical d od b node same =
     ⊎_elim (apart_later n ds o canonical d od b node same)
     (λ (at : level n ds b ≤ d.variable).
-      let in_range = od.in_range in
-      let found = branch_at_level n ds o b node (omega arith) in
-      let e = found.0 in
-      let f : IsBranch n ds b e = found.1 in
-      let level_is = f.level_is in
-      ⊎_elim (λ (before : e.variable < d.variable). apart_before n ds o canonical d od b node same e f before)
-      (λ (reached : d.variable ≤ e.variable). apart_here n ds o canonical d od b node same e f (omega arith)) (cases_lt e.variable d.variable))
+    let in_range = od.in_range in
+    let found = branch_at_level n ds o b node (omega arith) in
+    let e = found.0 in
+    let f : IsBranch n ds b e = found.1 in
+    let level_is = f.level_is in
+    ⊎_elim (λ (before : e.variable < d.variable). apart_before n ds o canonical d od b node same e f before)
+    (λ (reached : d.variable ≤ e.variable). apart_here n ds o canonical d od b node same e f (omega arith)) (cases_lt e.variable d.variable))
     (cases_lt d.variable (level n ds b))
 
 -- conditions of one ordered list that mean the same are the same
@@ -107,33 +107,33 @@ canonical n (d ∷ older) o a b a_node b_node same =
     let older_canonical = canonical n older o.1 in
     ⊎_elim
     (λ (a_top : a.index ≡ top older). ⊎_elim (λ (b_top : b.index ≡ top older). Cond-same a b (a_top ∙ sym b_top))
-      (λ (ne : b.index ≡ top older → ⊥).
-        let b_below : b.index < top older = omega arith in
-        absurd (apart_from_older n older o.1 older_canonical d o.0 b b_below (λ v len. sym (holds_in-top d older a v a_top) ∙ same v len ∙ holds_in-below d older b v b_below)))
-      (cases_eq b.index (top older)))
+    (λ (ne : b.index ≡ top older → ⊥).
+    let b_below : b.index < top older = omega arith in
+    absurd (apart_from_older n older o.1 older_canonical d o.0 b b_below (λ v len. sym (holds_in-top d older a v a_top) ∙ same v len ∙ holds_in-below d older b v b_below)))
+    (cases_eq b.index (top older)))
     (λ (a_ne : a.index ≡ top older → ⊥).
-      let a_below : a.index < top older = omega arith in
-      ⊎_elim (λ (b_top : b.index ≡ top older).
-        absurd (apart_from_older n older o.1 older_canonical d o.0 a a_below (λ v len. sym (holds_in-top d older b v b_top) ∙ sym (same v len) ∙ holds_in-below d older a v a_below)))
-      (λ (ne : b.index ≡ top older → ⊥).
-        let b_below : b.index < top older = omega arith in
-        older_canonical a b a_below b_below (λ v len. sym (holds_in-below d older a v a_below) ∙ same v len ∙ holds_in-below d older b v b_below))
-      (cases_eq b.index (top older)))
+    let a_below : a.index < top older = omega arith in
+    ⊎_elim (λ (b_top : b.index ≡ top older).
+    absurd (apart_from_older n older o.1 older_canonical d o.0 a a_below (λ v len. sym (holds_in-top d older b v b_top) ∙ sym (same v len) ∙ holds_in-below d older a v a_below)))
+    (λ (ne : b.index ≡ top older → ⊥).
+    let b_below : b.index < top older = omega arith in
+    older_canonical a b a_below b_below (λ v len. sym (holds_in-below d older a v a_below) ∙ same v len ∙ holds_in-below d older b v b_below))
+    (cases_eq b.index (top older)))
     (cases_eq a.index (top older))
 
 -- a condition that depends on no variable before k has a level from k on
 pub level_from_meaning : (n : ℕ) (ds : List Decision) → IsOrdered n ds → (c : Cond) → c.index < top ds → (k : ℕ) → k ≤ n → ((i : ℕ) (v : List Bool) (b : Bool) → i < k → holds_in ds c (set v i b) ≡ holds_in ds c v) → k ≤ level n ds c
 level_from_meaning n ds o c node k most free =
     ⊎_elim (λ (below : level n ds c < k).
-      let found = branch_at_level n ds o c node (omega arith) in
-      let d = found.0 in
-      let f : IsBranch n ds c d = found.1 in
-      let level_is = f.level_is in
-      let before : d.variable < k = omega arith in
-      let d_low : d.low.index < top ds = let h = f.low_older in omega arith in
-      let d_high : d.high.index < top ds = let h = f.high_older in omega arith in
-      absurd (f.different (canonical n ds o d.low d.high d_low d_high (λ v len.
-        sym (low_half n ds o d d_low f.in_range f.low_later v len) ∙ sym (f.meaning (set v d.variable false)) ∙ free d.variable v false before
-        ∙ sym (free d.variable v true before) ∙ f.meaning (set v d.variable true) ∙ high_half n ds o d d_high f.in_range f.high_later v len))))
+    let found = branch_at_level n ds o c node (omega arith) in
+    let d = found.0 in
+    let f : IsBranch n ds c d = found.1 in
+    let level_is = f.level_is in
+    let before : d.variable < k = omega arith in
+    let d_low : d.low.index < top ds = let h = f.low_older in omega arith in
+    let d_high : d.high.index < top ds = let h = f.high_older in omega arith in
+    absurd (f.different (canonical n ds o d.low d.high d_low d_high (λ v len.
+    sym (low_half n ds o d d_low f.in_range f.low_later v len) ∙ sym (f.meaning (set v d.variable false)) ∙ free d.variable v false before
+    ∙ sym (free d.variable v true before) ∙ f.meaning (set v d.variable true) ∙ high_half n ds o d d_high f.in_range f.high_later v len))))
     (λ (above : k ≤ level n ds c). above)
     (cases_lt (level n ds c) k)

@@ -2,19 +2,17 @@
 use Rattle.std.proofs.Common.{◌≡◌, ◌==◌, ◌+◌, ◌<◌, ◌≤◌, ℕ, Bool, true, false, cond, not, List, length, Option, Some, None, refl, sym, ap, ◌∙◌, ⊎_elim, subst, arith, set, eq-eqb}
 use Rattle.std.specs.Option.{is_some}
 use Rattle.std.proofs.lemmas.Bool.{cond-true, cond-false, cases_Bool, eqb-true, ne_eqb, false_from_ne_true, both_ways}
-use Rattle.std.proofs.lemmas.Bool.Decides.{nat_tests}
 use Rattle.hv_cond.specs.declared.complements.Complements.{Complements}
 use Rattle.hv_cond.specs.declared.conditions.Cond.{Cond}
 use Rattle.hv_cond.specs.declared.nodes.Decision.{Decision}
 use Rattle.hv_cond.specs.declared.nodes.Nodes.{Nodes}
 use Rattle.hv_cond.specs.Complements.{complement_of, same_cond, AreComplements, GrowsBy, IsComplement}
-use Rattle.hv_cond.specs.Connectives.{open_among}
 use Rattle.hv_cond.specs.Diagram.{top, holds_in, value_of}
-use Rattle.hv_cond.specs.Nodes.{newest_first, level, Extends, Among, Within, IsBranch, IsClosed, IsOrdered, IsReduced, MayBranch}
+use Rattle.hv_cond.specs.Nodes.{newest_first, level, Extends, Within, IsBranch, IsClosed, IsOrdered, IsReduced, MayBranch}
 use Rattle.hv_cond.proofs.Branches.{Cond-same, holds_in-terminal, holds_in-set, level-le}
 use Rattle.hv_cond.proofs.Canonical.{level_from_meaning}
 use Rattle.hv_cond.proofs.Counts.{open_among-fills, open_among-answered}
-use Rattle.hv_cond.proofs.Tables.{Extends-refl, Extends-trans, Extends-node, Extends-holds, Extends-level, Extends-closed}
+use Rattle.hv_cond.proofs.Tables.{Extends-trans, Extends-node, Extends-holds, Extends-level, Extends-closed}
 
 not_not : (x y : Bool) → x ≡ not y → y ≡ not x
 not_not x true e = sym (ap not e)
@@ -68,49 +66,53 @@ Records-here before after a c r = ap is_some (r a) ∙ some_cond (same_cond c a)
 
 Records-answers : (ds : List Decision) (before after : Complements) (a c : Cond) → Records before after a c → AreComplements ds before → IsComplement ds a c → AreComplements ds after
 Records-answers ds before after a c r answers h =
-    record { each = λ x z kn.
-      ⊎_elim (λ (s : same_cond c x ≡ true).
-        let found : Some a ≡ Some z = sym (cond-true (same_cond c x) (Some a) (cond (same_cond a x) (Some c) (complement_of before x)) s) ∙ sym (r x) ∙ kn in
-        let same : a ≡ z = cc in
-        subst (λ (w : Cond). IsComplement ds w z) (same_from c x s) (subst (IsComplement ds c) same (IsComplement-swap ds a c h)))
-      (λ (other : same_cond c x ≡ false).
-        let rest : cond (same_cond a x) (Some c) (complement_of before x) ≡ Some z = sym (cond-false (same_cond c x) (Some a) (cond (same_cond a x) (Some c) (complement_of before x)) other) ∙ sym (r x) ∙ kn in
-        ⊎_elim (λ (s : same_cond a x ≡ true).
+    record {
+      each = λ x z kn.
+          ⊎_elim (λ (s : same_cond c x ≡ true).
+          let found : Some a ≡ Some z = sym (cond-true (same_cond c x) (Some a) (cond (same_cond a x) (Some c) (complement_of before x)) s) ∙ sym (r x) ∙ kn in
+          let same : a ≡ z = cc in
+          subst (λ (w : Cond). IsComplement ds w z) (same_from c x s) (subst (IsComplement ds c) same (IsComplement-swap ds a c h)))
+          (λ (other : same_cond c x ≡ false).
+          let rest : cond (same_cond a x) (Some c) (complement_of before x) ≡ Some z = sym (cond-false (same_cond c x) (Some a) (cond (same_cond a x) (Some c) (complement_of before x)) other) ∙ sym (r x) ∙ kn in
+          ⊎_elim (λ (s : same_cond a x ≡ true).
           let found : Some c ≡ Some z = sym (cond-true (same_cond a x) (Some c) (complement_of before x) s) ∙ rest in
           let same : c ≡ z = cc in
           subst (λ (w : Cond). IsComplement ds w z) (same_from a x s) (subst (IsComplement ds a) same h))
-        (λ (f : same_cond a x ≡ false). answers.each x z (sym (cond-false (same_cond a x) (Some c) (complement_of before x) f) ∙ rest)) (cases_Bool (same_cond a x)))
-      (cases_Bool (same_cond c x)) }
+          (λ (f : same_cond a x ≡ false). answers.each x z (sym (cond-false (same_cond a x) (Some c) (complement_of before x) f) ∙ rest)) (cases_Bool (same_cond a x)))
+          (cases_Bool (same_cond c x));
+    }
 
 -- a branch was added at most, and the condition has its complement
 pub GrowsBy-enter : (old new : Nodes) (before after : Complements) (a c : Cond) → IsReduced new → Extends old new → length (newest_first new) ≤ length (newest_first old) + 1 → AreComplements (newest_first old) before
     → a.index < top (newest_first old) → IsComplement (newest_first new) a c → complement_of before a ≡ None → Records before after a c → 2 ≤ a.index → GrowsBy old new before after a
 GrowsBy-enter old new before after a c reduced extends grows answers node h unknown r is_branch =
     record {
-    reduced = reduced;
-    extends = extends;
-    answers = Records-answers (newest_first new) before after a c r (Extends-complements extends before answers) h;
-    earlier = λ x l before_a.
-      let at_x = Extends-level extends x l in
-      let at_a = Extends-level extends a node in
-      let at_c = complement_later new.variables (newest_first new) reduced.ordered a c h in
-      let not_c : same_cond c x ≡ false = apart_from c x (λ (e : c ≡ x). let f = ap (λ (z : Cond). level new.variables (newest_first new) z) e in omega arith) in
-      let not_a : same_cond a x ≡ false = apart_from a x (λ (e : a ≡ x). let f = ap (λ (z : Cond). level new.variables (newest_first new) z) e in omega arith) in
-      r x ∙ cond-false _ _ _ not_c ∙ cond-false _ _ _ not_a;
-    bound = λ xs cx wx.
-      let less = open_among-answered (complement_of before) (complement_of after) (Records-fills before after a c r) a unknown (Records-here before after a c r) xs (wx is_branch) in
-      omega arith; }
+      reduced = reduced;
+      extends = extends;
+      answers = Records-answers (newest_first new) before after a c r (Extends-complements extends before answers) h;
+      earlier = λ x l before_a.
+          let at_x = Extends-level extends x l in
+          let at_a = Extends-level extends a node in
+          let at_c = complement_later new.variables (newest_first new) reduced.ordered a c h in
+          let not_c : same_cond c x ≡ false = apart_from c x (λ (e : c ≡ x). let f = ap (λ (z : Cond). level new.variables (newest_first new) z) e in omega arith) in
+          let not_a : same_cond a x ≡ false = apart_from a x (λ (e : a ≡ x). let f = ap (λ (z : Cond). level new.variables (newest_first new) z) e in omega arith) in
+          r x ∙ cond-false _ _ _ not_c ∙ cond-false _ _ _ not_a;
+      bound = λ xs cx wx.
+          let less = open_among-answered (complement_of before) (complement_of after) (Records-fills before after a c r) a unknown (Records-here before after a c r) xs (wx is_branch) in
+          omega arith;
+    }
 
 -- no branch was added, and no complement
 pub GrowsBy-failed : (old new : Nodes) (before after : Complements) (a : Cond) → IsReduced new → Extends old new → length (newest_first new) ≡ length (newest_first old) → AreComplements (newest_first old) before
     → ((x : Cond) → complement_of after x ≡ complement_of before x) → GrowsBy old new before after a
 GrowsBy-failed old new before after a reduced extends grows answers same =
     record {
-    reduced = reduced;
-    extends = extends;
-    answers = record { each = λ x z kn. (Extends-complements extends before answers).each x z (sym (same x) ∙ kn) };
-    earlier = λ x l before_a. same x;
-    bound = λ xs cx wx. let le = open_among-fills (complement_of before) (complement_of after) (λ x h. ap is_some (same x) ∙ h) xs in omega arith; }
+      reduced = reduced;
+      extends = extends;
+      answers = record { each = λ x z kn. (Extends-complements extends before answers).each x z (sym (same x) ∙ kn) };
+      earlier = λ x l before_a. same x;
+      bound = λ xs cx wx. let le = open_among-fills (complement_of before) (complement_of after) (λ x h. ap is_some (same x) ∙ h) xs in omega arith;
+    }
 
 -- the condition is among those reached from another
 pub record IsUnder (n : ℕ) (ds : List Decision) (a x : Cond) : Type 0 where
@@ -124,41 +126,45 @@ IsUnder-refl n ds a l = record { node = l; later = omega arith; within = λ xs c
 pub IsUnder-low : (n : ℕ) (ds : List Decision) (a : Cond) (d : Decision) → a.index < top ds → 2 ≤ a.index → IsBranch n ds a d → IsUnder n ds a d.low
 IsUnder-low n ds a d l t f =
     record {
-    node = (let p = f.low_older in omega arith);
-    later = (let p = f.level_is in let q = f.low_later in omega arith);
-    within = λ xs cx w. (cx.children a d.variable d.low d.high (w t) f.is).0; }
+      node = (let p = f.low_older in omega arith);
+      later = (let p = f.level_is in let q = f.low_later in omega arith);
+      within = λ xs cx w. (cx.children a d.variable d.low d.high (w t) f.is).0;
+    }
 
 pub IsUnder-high : (n : ℕ) (ds : List Decision) (a : Cond) (d : Decision) → a.index < top ds → 2 ≤ a.index → IsBranch n ds a d → IsUnder n ds a d.high
 IsUnder-high n ds a d l t f =
     record {
-    node = (let p = f.high_older in omega arith);
-    later = (let p = f.level_is in let q = f.high_later in omega arith);
-    within = λ xs cx w. (cx.children a d.variable d.low d.high (w t) f.is).1; }
+      node = (let p = f.high_older in omega arith);
+      later = (let p = f.level_is in let q = f.high_later in omega arith);
+      within = λ xs cx w. (cx.children a d.variable d.low d.high (w t) f.is).1;
+    }
 
 pub GrowsBy-under : (old new : Nodes) (before after : Complements) (a x : Cond) → IsUnder old.variables (newest_first old) a x → GrowsBy old new before after x → GrowsBy old new before after a
 GrowsBy-under old new before after a x under g =
     record {
-    reduced = g.reduced;
-    extends = g.extends;
-    answers = g.answers;
-    earlier = λ z l b. g.earlier z l (let p = under.later in omega arith);
-    bound = λ xs cx wx. g.bound xs cx (under.within xs cx wx); }
+      reduced = g.reduced;
+      extends = g.extends;
+      answers = g.answers;
+      earlier = λ z l b. g.earlier z l (let p = under.later in omega arith);
+      bound = λ xs cx wx. g.bound xs cx (under.within xs cx wx);
+    }
 
 pub GrowsBy-then : (old mid new : Nodes) (before between after : Complements) (a x : Cond) → GrowsBy old mid before between a → IsUnder old.variables (newest_first old) a x → GrowsBy mid new between after x → GrowsBy old new before after a
 GrowsBy-then old mid new before between after a x g under h =
     record {
-    reduced = h.reduced;
-    extends = Extends-trans old mid new g.extends h.extends;
-    answers = h.answers;
-    earlier = λ z l b.
-      let at_z = Extends-level g.extends z l in
-      let at_x = Extends-level g.extends x under.node in
-      let p = under.later in
-      h.earlier z (Extends-node g.extends z l) (omega arith) ∙ g.earlier z l b;
-    bound = λ xs cx wx.
-      let one = g.bound xs cx wx in
-      let two = h.bound xs (Extends-closed g.extends xs cx) (under.within xs cx wx) in
-      omega arith; }
+      reduced = h.reduced;
+      extends = Extends-trans old mid new g.extends h.extends;
+      answers = h.answers;
+      earlier = λ z l b.
+          let at_z = Extends-level g.extends z l in
+          let at_x = Extends-level g.extends x under.node in
+          let p = under.later in
+          h.earlier z (Extends-node g.extends z l) (omega arith) ∙ g.earlier z l b;
+      bound = λ xs cx wx.
+          let one = g.bound xs cx wx in
+          let two = h.bound xs (Extends-closed g.extends xs cx) (under.within xs cx wx) in
+          omega arith;
+    }
 
 -- the branch of the complements of both halves is the complement
 pub complement_made : {old new : Nodes} → Extends old new → (a c : Cond) → a.index < top (newest_first old) → c.index < top (newest_first new)
@@ -191,11 +197,12 @@ complements_may_branch old mid new a d low high h =
     let low_le = complement_later mid.variables (newest_first mid) h.mid_reduced.ordered d.low low h.low_answer in
     let high_le = complement_later new.variables (newest_first new) h.new_reduced.ordered d.high high h.high_answer in
     record {
-    in_range = (let p = e.variables in let q = h.branch.in_range in omega arith);
-    low_node = Extends-node h.to_new low h.low_answer.node;
-    high_node = h.high_answer.node;
-    low_later = later_lifts h.to_new low d.variable h.low_answer.node (omega arith);
-    high_later = omega arith; }
+      in_range = (let p = e.variables in let q = h.branch.in_range in omega arith);
+      low_node = Extends-node h.to_new low h.low_answer.node;
+      high_node = h.high_answer.node;
+      low_later = later_lifts h.to_new low d.variable h.low_answer.node (omega arith);
+      high_later = omega arith;
+    }
 
 not_choice : (t p r : Bool) → cond t (not p) (not r) ≡ not (cond t p r)
 not_choice true p r = refl

@@ -1,7 +1,6 @@
 -- How many pairs have no answer yet.
-use Rattle.std.proofs.Common.{◌≡◌, ◌+◌, ◌*◌, ◌<◌, ◌≤◌, ℕ, Bool, true, false, cond, List, [], ◌∷◌, length, Option, Some, None, refl, sym, ap, ◌∙◌, inl, inr, ⊎_elim, subst, arith}
+use Rattle.std.proofs.Common.{◌≡◌, ◌+◌, ◌*◌, ◌≤◌, ℕ, Bool, true, false, cond, List, [], ◌∷◌, length, Option, None, refl, ap, ◌∙◌, ⊎_elim, arith}
 use Rattle.std.specs.Option.{is_some}
-use Rattle.std.proofs.lemmas.Bool.{cond-true, cond-false, cases_Bool}
 use Rattle.hv_cond.specs.declared.conditions.Cond.{Cond}
 use Rattle.hv_cond.specs.Nodes.{Among}
 use Rattle.hv_cond.specs.Connectives.{open_among, open_pairs}
@@ -43,8 +42,8 @@ pub open_pairs-answered : (f g : Cond → Cond → Option Cond) → ((x : Cond) 
 open_pairs-answered f g h a b was now [] ys first second = absurd first
 open_pairs-answered f g h a b was now (x ∷ xs) ys first second =
     ⊎_elim (λ (e : x ≡ a).
-      let row = open_among-answered (f x) (g x) (h x) b (ap (λ (z : Cond). f z b) e ∙ was) (ap (λ (z : Cond). is_some (g z b)) e ∙ now) ys second in
-      let rest = open_pairs-fills f g h xs ys in omega arith)
+    let row = open_among-answered (f x) (g x) (h x) b (ap (λ (z : Cond). f z b) e ∙ was) (ap (λ (z : Cond). is_some (g z b)) e ∙ now) ys second in
+    let rest = open_pairs-fills f g h xs ys in omega arith)
     (λ (more : Among xs a). let row = open_among-fills (f x) (g x) (h x) ys in let rest = open_pairs-answered f g h a b was now xs ys more second in omega arith) first
 
 -- at most all pairs are open

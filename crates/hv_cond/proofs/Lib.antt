@@ -4,4 +4,7 @@ pub mod Combining
 pub mod Complementing
 pub mod Counts
 pub mod Lifts
+pub mod Reached
+pub mod Sound
 pub mod Tables
+pub mod Walking

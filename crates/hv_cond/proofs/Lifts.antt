@@ -1,11 +1,9 @@
 -- What newer branches leave as it was among the older ones.
-use Rattle.std.proofs.Common.{◌≡◌, ◌==◌, ◌+◌, ◌<◌, ◌≤◌, ℕ, Bool, true, false, cond, ◌||◌, List, [], ◌∷◌, ◌++◌, length, refl, sym, ap, ◌∙◌, arith, length-append}
-use Rattle.std.proofs.lemmas.Bool.{cond-true, cond-false}
+use Rattle.std.proofs.Common.{◌≡◌, ◌<◌, ℕ, Bool, List, [], ◌∷◌, ◌++◌, refl, sym, ◌∙◌, arith, length-append}
 use Rattle.hv_cond.specs.declared.conditions.Cond.{Cond}
-use Rattle.hv_cond.specs.declared.conditions.Node.TheVariants.{Branch}
 use Rattle.hv_cond.specs.declared.nodes.Decision.{Decision}
-use Rattle.hv_cond.specs.Diagram.{top, node_in, holds_in, reaches_in}
-use Rattle.hv_cond.specs.Nodes.{level, Among, Within, IsClosed}
+use Rattle.hv_cond.specs.Diagram.{top, node_in, holds_in}
+use Rattle.hv_cond.specs.Nodes.{level, IsClosed}
 use Rattle.hv_cond.proofs.Branches.{holds_in-below, node_in-below, level-below}
 
 -- a node stays one
@@ -28,5 +26,6 @@ level-append n (d ∷ added) ds c l = level-below n d (added ++ ds) c (node_lift
 pub IsClosed-append : (added ds : List Decision) (xs : List Cond) → IsClosed ds xs → IsClosed (added ++ ds) xs
 IsClosed-append added ds xs closed =
     record {
-    nodes = λ c among. node_lifts added ds c (closed.nodes c among);
-    children = λ c i low high among is. closed.children c i low high among (sym (node_in-append added ds c (closed.nodes c among)) ∙ is); }
+      nodes = λ c among. node_lifts added ds c (closed.nodes c among);
+      children = λ c i low high among is. closed.children c i low high among (sym (node_in-append added ds c (closed.nodes c among)) ∙ is);
+    }

@@ -1,5 +1,5 @@
 -- The connectives of two conditions, and what computing one does to the tables.
-use Rattle.std.specs.Prelude.{◌≡◌, ◌+◌, ◌<◌, ◌≤◌, ℕ, Bool, ◌||◌, ◌&&◌, List, [], ◌∷◌, length, Option, Some, None, is_some, if◌then◌else◌}
+use Rattle.std.specs.Prelude.{◌≡◌, ◌+◌, ◌<◌, ◌≤◌, ℕ, Bool, ◌||◌, ◌&&◌, List, [], ◌∷◌, length, Option, Some, is_some, if◌then◌else◌}
 use Rattle.hv_cond.specs.declared.conditions.Cond.{Cond}
 use Rattle.hv_cond.specs.declared.connectives.Connective.{Connective}
 use Rattle.hv_cond.specs.declared.connectives.Connective.TheVariants.{And, Or}

@@ -2,4 +2,6 @@ pub mod Complements
 pub mod Connectives
 pub mod Diagram
 pub mod Nodes
+pub mod Paths
 pub mod Results
+pub mod Stores

@@ -85,7 +85,11 @@ fn opposite(a: Cond) -> Cond
     requires { a.index < 2 }
     ensures { result.index + a.index ≡ 1 }
 {
-    if a == Cond::TRUTH { Cond::FALSITY } else { Cond::TRUTH }
+    if a == Cond::TRUTH {
+        Cond::FALSITY
+    } else {
+        Cond::TRUTH
+    }
 }
 
 /// Makes the complement of its two halves, and keeps it for both directions.

@@ -6,6 +6,9 @@ mod complements;
 mod conditions;
 mod connectives;
 mod nodes;
+mod paths;
 mod results;
+mod stores;
 
 pub use conditions::{Cond, Node};
+pub use stores::Store;

@@ -55,11 +55,13 @@ impl Nodes {
         ensures { result ≡ node (diagram self.now) c }
     {
         match self.decision(c) {
-            Some(Decision {
-                variable,
-                low,
-                high,
-            }) => Node::Branch {
+            Some(
+                Decision {
+                    variable,
+                    low,
+                    high,
+                },
+            ) => Node::Branch {
                 var: variable,
                 low,
                 high,

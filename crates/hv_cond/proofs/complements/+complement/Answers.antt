@@ -1,5 +1,5 @@
-use Rattle.std.proofs.Common.{◌≡◌, ◌<◌, ◌≤◌, Bool, List, sym, ◌∙◌, arith}
-use Rattle.hv_cond.specs.Nodes.{newest_first, level}
+use Rattle.std.proofs.Common.{sym, ◌∙◌, arith}
+use Rattle.hv_cond.specs.Nodes.{newest_first}
 use Rattle.hv_cond.proofs.Branches.{branch_index}
 use Rattle.hv_cond.proofs.Tables.{Extends-level, Extends-node}
 use Rattle.hv_cond.proofs.Complementing.{GrowsBy-under, GrowsBy-then, IsUnder-low, IsUnder-high, IsUnder-refl, HalvesComplemented, complements_may_branch, complements_meaning, complement_terminal}
@@ -44,7 +44,8 @@ enter-requires-clause-may_branch t c =
       mid_reduced = c.complement.ensures.grows.reduced;
       new_reduced = c.complement-2.ensures.grows.reduced;
       low_answer = c.in_ok-low.ensures.answer;
-      high_answer = c.in_ok-high.ensures.answer; } in
+      high_answer = c.in_ok-high.ensures.answer;
+    } in
     complements_may_branch s c.complement.new.nodes c.complement-2.new.nodes c.args.a c.in-Some.decision c.in_ok-low.low c.in_ok-high.high h
 
 pub enter-requires-clause-meaning : goal.enter-requires-clause-meaning
@@ -58,7 +59,8 @@ enter-requires-clause-meaning t c =
       mid_reduced = c.complement.ensures.grows.reduced;
       new_reduced = c.complement-2.ensures.grows.reduced;
       low_answer = c.in_ok-low.ensures.answer;
-      high_answer = c.in_ok-high.ensures.answer; } in
+      high_answer = c.in_ok-high.ensures.answer;
+    } in
     λ v. complements_meaning s c.complement.new.nodes c.complement-2.new.nodes c.args.a c.in-Some.decision c.in_ok-low.low c.in_ok-high.high h v
 
 pub returns-clause-grows : goal.returns-clause-grows
@@ -69,5 +71,5 @@ returns-clause-grows t c =
     let low = IsUnder-low s.variables (newest_first s) c.args.a d c.requires.node (branch_index f) f in
     let high = IsUnder-high s.variables (newest_first s) c.args.a d c.requires.node (branch_index f) f in
     let both = GrowsBy-then s c.complement.new.nodes c.complement-2.new.nodes c.args.complements.now c.complement.new.complements c.complement-2.new.complements c.args.a d.high
-      (GrowsBy-under s c.complement.new.nodes c.args.complements.now c.complement.new.complements c.args.a d.low low c.complement.ensures.grows) high c.complement-2.ensures.grows in
+    (GrowsBy-under s c.complement.new.nodes c.args.complements.now c.complement.new.complements c.args.a d.low low c.complement.ensures.grows) high c.complement-2.ensures.grows in
     GrowsBy-then s c.complement-2.new.nodes c.enter.new.nodes c.args.complements.now c.complement-2.new.complements c.enter.new.complements c.args.a c.args.a both (IsUnder-refl s.variables (newest_first s) c.args.a c.requires.node) c.enter.ensures.grows

@@ -1,5 +1,5 @@
-use Rattle.std.proofs.Common.{◌≡◌, ◌<◌, Bool, List, arith}
-use Rattle.hv_cond.specs.Nodes.{newest_first, level}
+use Rattle.std.proofs.Common.{arith}
+use Rattle.hv_cond.specs.Nodes.{newest_first}
 use Rattle.hv_cond.proofs.Branches.{level-branch}
 use Rattle.hv_cond.proofs.Combining.{Grows-below, Grows-then, IsBelow-low, IsBelow-high, IsBelow-refl, HalvesAnswered, halves_may_branch, halves_meaning}
 use Rattle.hv_cond.proofs.connectives.+combine.Goals as goal
@@ -43,7 +43,8 @@ enter-requires-clause-may_branch t c =
       mid_reduced = c.combine.ensures.grows.reduced;
       new_reduced = c.combine-2.ensures.grows.reduced;
       low_answer = c.in_ok-low.ensures.answer;
-      high_answer = c.in_ok-high.ensures.answer; } in
+      high_answer = c.in_ok-high.ensures.answer;
+    } in
     halves_may_branch c.args.connective s c.combine.new.nodes c.combine-2.new.nodes c.args.a c.args.b c.min-variable.result c.in_ok-low.low c.in_ok-high.high h
 
 pub enter-requires-clause-meaning : goal.enter-requires-clause-meaning
@@ -65,7 +66,8 @@ enter-requires-clause-meaning t c =
       mid_reduced = c.combine.ensures.grows.reduced;
       new_reduced = c.combine-2.ensures.grows.reduced;
       low_answer = c.in_ok-low.ensures.answer;
-      high_answer = c.in_ok-high.ensures.answer; } in
+      high_answer = c.in_ok-high.ensures.answer;
+    } in
     λ v. halves_meaning c.args.connective s c.combine.new.nodes c.combine-2.new.nodes c.args.a c.args.b c.min-variable.result c.in_ok-low.low c.in_ok-high.high h v
 
 pub returns-clause-grows : goal.returns-clause-grows
@@ -74,5 +76,5 @@ returns-clause-grows t c =
     let low_below = IsBelow-low s.variables (newest_first s) c.args.a c.args.b c.min-variable.result _ _ _ _ c.halves.ensures c.halves-2.ensures in
     let high_below = IsBelow-high s.variables (newest_first s) c.args.a c.args.b c.min-variable.result _ _ _ _ c.halves.ensures c.halves-2.ensures in
     let both = Grows-then c.args.connective s c.combine.new.nodes c.combine-2.new.nodes c.args.results.now c.combine.new.results c.combine-2.new.results c.args.a c.args.b _ _
-      (Grows-below c.args.connective s c.combine.new.nodes c.args.results.now c.combine.new.results c.args.a c.args.b _ _ low_below c.combine.ensures.grows) high_below c.combine-2.ensures.grows in
+    (Grows-below c.args.connective s c.combine.new.nodes c.args.results.now c.combine.new.results c.args.a c.args.b _ _ low_below c.combine.ensures.grows) high_below c.combine-2.ensures.grows in
     Grows-then c.args.connective s c.combine-2.new.nodes c.enter.new.nodes c.args.results.now c.combine-2.new.results c.enter.new.results c.args.a c.args.b c.args.a c.args.b both (IsBelow-refl (newest_first s) c.args.a c.args.b) c.enter.ensures.grows

@@ -1,9 +1,5 @@
-use Rattle.std.proofs.Common.{rules, ◌≡◌, ◌≢◌, ℕ, ◌+◌, ◌-◌, ◌<◌, ◌≤◌, [], ◌∷◌, ◌++◌, List, Bool, true, false, cond, Option, Some, None, refl, sym, ap, ◌∙◌, subst, arith, length, get_or}
-use Rattle.hv_cond.specs.declared.conditions.Cond.{Cond}
-use Rattle.hv_cond.specs.declared.nodes.Decision.{Decision}
-use Rattle.hv_cond.specs.declared.nodes.Nodes.{Nodes}
-use Rattle.hv_cond.specs.Diagram.{IsNode, holds, node, size, value_of, top, node_in, holds_in}
-use Rattle.hv_cond.specs.Nodes.{diagram, level, newest_first, place_of, Extends, IsBranch, IsDecision, IsHalves, IsReduced}
+use Rattle.std.proofs.Common.{sym}
+use Rattle.hv_cond.specs.Nodes.{newest_first}
 use Rattle.hv_cond.proofs.Branches.{placed}
 use Rattle.hv_cond.proofs.Tables.{Extends-push, meaning-push}
 use Rattle.hv_cond.proofs.nodes.Nodes.branch.Goals as goal

@@ -1,11 +1,10 @@
-use Rattle.std.proofs.Common.{rules, ◌≡◌, ◌≢◌, ℕ, ◌+◌, ◌-◌, ◌<◌, ◌≤◌, [], ◌∷◌, ◌++◌, List, Bool, true, false, cond, Option, Some, None, refl, sym, ap, ◌∙◌, subst, arith, length, get_or}
+use Rattle.std.proofs.Common.{◌≡◌, cond, Option, Some, refl, ap, ◌∙◌, arith}
 use Rattle.hv_cond.specs.declared.conditions.Cond.{Cond}
-use Rattle.hv_cond.specs.declared.nodes.Decision.{Decision}
 use Rattle.hv_cond.specs.declared.nodes.Nodes.{Nodes}
-use Rattle.hv_cond.specs.Diagram.{IsNode, holds, node, size, value_of, top, node_in, holds_in}
-use Rattle.hv_cond.specs.Nodes.{diagram, level, newest_first, place_of, same_decision, Extends, IsBranch, IsDecision, IsHalves, IsReduced}
+use Rattle.hv_cond.specs.Diagram.{top}
+use Rattle.hv_cond.specs.Nodes.{newest_first, same_decision}
 use Rattle.std.proofs.lemmas.List.{length-reverse}
-use Rattle.hv_cond.proofs.Tables.{IsReduced-same, IsReduced-push, newest_first-push}
+use Rattle.hv_cond.proofs.Tables.{IsReduced-same, IsReduced-push}
 use Rattle.hv_cond.proofs.nodes.Nodes.push.Goals as goal
 
 pub returns-in_err-push-clause-reduced : goal.returns-in_err-push-clause-reduced

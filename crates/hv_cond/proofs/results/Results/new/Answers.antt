@@ -1,7 +1,5 @@
-use Rattle.std.proofs.Common.{rules, ◌≡◌, ◌<◌, ℕ, Bool, cond, Option, Some, None, refl, sym, ap, ◌∙◌}
-use Rattle.std.specs.HashMap.{get}
-use Rattle.hv_cond.specs.declared.conditions.Cond.{Cond}
-use Rattle.hv_cond.specs.Results.{known, ordered_pair, same_pair, is_same_pair}
+use Rattle.std.proofs.Common.{refl}
+use Rattle.hv_cond.specs.Results.{known}
 use Rattle.hv_cond.proofs.results.Results.new.Goals as goal
 
 pub returns : goal.returns
