@@ -12,3 +12,6 @@ mod stores;
 
 pub use conditions::{Cond, Node};
 pub use stores::Store;
+
+#[cfg(test)]
+mod tests;
