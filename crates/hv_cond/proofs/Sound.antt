@@ -24,6 +24,7 @@ use Rattle.hv_cond.proofs.Tables.{Extends-node, Extends-holds, Extends-node_in}
 
 -- a table that extends another keeps its nodes
 pub Keeps-from : {old new : Nodes} → Extends old new → Keeps (diagram old) (diagram new)
+unfolding IsNode holds node
 Keeps-from e =
     record {
       variables = e.variables;
@@ -34,11 +35,13 @@ Keeps-from e =
 
 -- the number of branches reached, as the length of their list
 reached-length : (old : Nodes) (c : Cond) → length (reached (newest_first old) c) ≡ nodes (diagram old) c
+unfolding nodes size
 reached-length old c = length-passing _ (range_with_len 2 (length (newest_first old)))
 
 -- what is added for a connective
-pub bound_by_pairs : (k : Connective) (old new : Nodes) (before after : Results) (a b : Cond) → IsReduced old → a.index < top (newest_first old) → b.index < top (newest_first old) → Grows k old new before after a b
+pub bound_by_pairs : (k : Connective) (old new : Nodes) (before after : Results) (a b : Cond) → IsReduced old → IsNode (diagram old) a → IsNode (diagram old) b → Grows k old new before after a b
     → size (diagram new) ≤ size (diagram old) + (nodes (diagram old) a + 1) * (nodes (diagram old) b + 1)
+unfolding IsNode size
 bound_by_pairs k old new before after a b r first second g =
     let ds = newest_first old in
     let xs = reached ds a in
@@ -50,7 +53,8 @@ bound_by_pairs k old new before after a b r first second g =
     omega arith
 
 -- what is added for a complement
-pub bound_by_branches : (old new : Nodes) (before after : Complements) (a : Cond) → IsReduced old → a.index < top (newest_first old) → GrowsBy old new before after a → size (diagram new) ≤ size (diagram old) + nodes (diagram old) a
+pub bound_by_branches : (old new : Nodes) (before after : Complements) (a : Cond) → IsReduced old → IsNode (diagram old) a → GrowsBy old new before after a → size (diagram new) ≤ size (diagram old) + nodes (diagram old) a
+unfolding IsNode size
 bound_by_branches old new before after a r first g =
     let ds = newest_first old in
     let xs = reached ds a in
@@ -60,15 +64,17 @@ bound_by_branches old new before after a r first g =
     omega arith
 
 -- what an answer means to a caller
-pub meaning_of_answer : (k : Connective) (old new : Nodes) (a b : Cond) (r : Result Cond AllocError) → Extends old new → a.index < top (newest_first old) → b.index < top (newest_first old) → IfOk r (IsAnswer k (newest_first new) a b)
+pub meaning_of_answer : (k : Connective) (old new : Nodes) (a b : Cond) (r : Result Cond AllocError) → Extends old new → IsNode (diagram old) a → IsNode (diagram old) b → IfOk r (IsAnswer k (newest_first new) a b)
     → IfOk r (λ c. (v : List Bool) → holds (diagram new) c v ≡ apply k (holds (diagram old) a v) (holds (diagram old) b v))
+unfolding IsNode holds
 meaning_of_answer k old new a b (Ok c) e first second h =
     λ v. h.meaning v ∙ ap (λ (x : Bool). apply k x (holds_in (newest_first new) b v)) (Extends-holds e a v first) ∙ ap (λ (x : Bool). apply k (holds_in (newest_first old) a v) x) (Extends-holds e b v second)
 meaning_of_answer k old new a b (Err x) e first second h = tt
 
 -- what a complement means to a caller
-pub meaning_of_complement : (old new : Nodes) (a : Cond) (r : Result Cond AllocError) → Extends old new → a.index < top (newest_first old) → IfOk r (IsComplement (newest_first new) a)
+pub meaning_of_complement : (old new : Nodes) (a : Cond) (r : Result Cond AllocError) → Extends old new → IsNode (diagram old) a → IfOk r (IsComplement (newest_first new) a)
     → IfOk r (λ c. (v : List Bool) → holds (diagram new) c v ≡ not (holds (diagram old) a v))
+unfolding IsNode holds
 meaning_of_complement old new a (Ok c) e first h = λ v. h.meaning v ∙ ap not (Extends-holds e a v first)
 meaning_of_complement old new a (Err x) e first h = tt
 
@@ -87,6 +93,7 @@ choice_of_truth false t f p q = q
 pub meaning_of_var : (old new : Nodes) (i : ℕ) (r : Result Cond AllocError)
     → IfOk r (λ c. (v : List Bool) → holds (diagram new) c v ≡ cond (value_of v i) (holds (diagram old) (record { index = 1 }) v) (holds (diagram old) (record { index = 0 }) v))
     → IfOk r (λ c. (v : List Bool) → holds (diagram new) c v ≡ value_of v i)
+unfolding holds
 meaning_of_var old new i (Ok c) h = λ v. h v ∙ choice_of_truth (value_of v i) _ _ (truth_holds (newest_first old) v) (falsity_fails (newest_first old) v)
 meaning_of_var old new i (Err x) h = tt
 
@@ -107,7 +114,8 @@ tests_later n ds o c i l later =
     terminal_tests false = tt
 
 -- a node describes its condition
-pub described : (old : Nodes) → IsReduced old → (c : Cond) → c.index < top (newest_first old) → Describes (diagram old) c (node (diagram old) c)
+pub described : (old : Nodes) → IsReduced old → (c : Cond) → IsNode (diagram old) c → Describes (diagram old) c (node (diagram old) c)
+unfolding IsNode holds node
 described old r c l =
     let ds = newest_first old in
     let n = old.variables in
@@ -141,8 +149,10 @@ described old r c l =
 
 -- conditions of one meaning are one node
 pub one_node : (old : Nodes) → IsReduced old → (a b : Cond) → IsNode (diagram old) a → IsNode (diagram old) b → SameMeaning (diagram old) a b → a ≡ b
+unfolding IsNode holds
 one_node old r a b first second same = canonical old.variables (newest_first old) r.ordered a b first second same
 
 -- a condition that never holds is falsity
 pub never_is_falsity : (old : Nodes) → IsReduced old → (c : Cond) → IsNode (diagram old) c → IsNever (diagram old) c → c ≡ record { index = 0 }
+unfolding IsNode holds
 never_is_falsity old r c l never = one_node old r c (record { index = 0 }) l (omega arith) (λ v len. never v len ∙ sym (falsity_fails (newest_first old) v))

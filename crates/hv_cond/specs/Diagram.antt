@@ -25,7 +25,7 @@ node_in [] c = if c.index == 1 then Truth else Falsity
 node_in (d ∷ older) c = if c.index == top older then Branch d.variable d.low d.high else node_in older c
 
 -- what a condition is
-abbrev pub node : Diagram → Cond → Node
+unfoldable pub node : Diagram → Cond → Node
 node diagram c = node_in diagram.decisions c
 
 -- whether a condition holds where the variables have these values, among these branches
@@ -35,15 +35,15 @@ holds_in (d ∷ older) c values =
     if c.index == top older then (if value_of values d.variable then holds_in older d.high values else holds_in older d.low values) else holds_in older c values
 
 -- whether a condition holds where the variables have these values
-abbrev pub holds : Diagram → Cond → List Bool → Bool
+unfoldable pub holds : Diagram → Cond → List Bool → Bool
 holds diagram c values = holds_in diagram.decisions c values
 
 -- the condition is a node of the diagram
-abbrev pub IsNode : Diagram → Cond → Type 0
+unfoldable pub IsNode : Diagram → Cond → Type 0
 IsNode diagram c = c.index < top diagram.decisions
 
 -- how many branches the diagram has
-abbrev pub size : Diagram → ℕ
+unfoldable pub size : Diagram → ℕ
 size diagram = length diagram.decisions
 
 -- the branches reached from a condition: itself, if it is one, and those reached from its children
@@ -53,7 +53,7 @@ reaches_in (d ∷ older) c i =
     if c.index == top older then (i == c.index || (reaches_in older d.low i || reaches_in older d.high i)) else reaches_in older c i
 
 -- how many branches are reached from a condition
-abbrev pub nodes : Diagram → Cond → ℕ
+unfoldable pub nodes : Diagram → Cond → ℕ
 nodes diagram c = count_by (reaches_in diagram.decisions c) (range_with_len 2 (size diagram))
 
 -- the new diagram has each node of the old one, with what it means and what it is

@@ -1,8 +1,8 @@
 //! The complement of a condition.
 ghost use Rattle.std.specs.Prelude.{◌≡◌, ℕ, ◌+◌, ◌<◌, ◌≤◌, List, Bool, not, if◌then◌else◌, IfOk, OnOk};
 ghost use Rattle.std.specs.declared.option.Option.TheVariants.{Some, None};
-ghost use Rattle.hv_cond.specs.Diagram.{IsNode, holds, value_of};
-ghost use Rattle.hv_cond.specs.Nodes.{diagram, newest_first, IsReduced, MayBranch};
+ghost use Rattle.hv_cond.specs.Diagram.{holds_in, top, value_of};
+ghost use Rattle.hv_cond.specs.Nodes.{newest_first, IsReduced, MayBranch};
 ghost use Rattle.hv_cond.specs.Complements.{complement_of, room, same_cond, AreComplements, GrowsBy, IsComplement};
 
 use crate::conditions::Cond;
@@ -59,7 +59,7 @@ pub(crate) fn complement(
 ) -> Result<Cond, AllocError>
     requires reduced { IsReduced nodes.old }
     requires answers { AreComplements (newest_first nodes.old) complements.old }
-    requires node { IsNode (diagram nodes.old) a }
+    requires node { a.index < top (newest_first nodes.old) }
 
     ensures grows { GrowsBy nodes.old nodes.new complements.old complements.new a }
     ensures answer { IfOk result (IsComplement (newest_first nodes.new) a) }
@@ -101,11 +101,11 @@ fn enter(
 ) -> Result<Cond, AllocError>
     requires reduced { IsReduced nodes.old }
     requires answers { AreComplements (newest_first nodes.old) complements.old }
-    requires node { IsNode (diagram nodes.old) a }
+    requires node { a.index < top (newest_first nodes.old) }
     requires is_branch { 2 ≤ a.index }
     requires unknown { complement_of complements.old a ≡ None }
     requires may_branch { MayBranch nodes.old halves }
-    requires meaning { (v : List Bool) → (if value_of v halves.variable then holds (diagram nodes.old) halves.high v else holds (diagram nodes.old) halves.low v) ≡ not (holds (diagram nodes.old) a v) }
+    requires meaning { (v : List Bool) → (if value_of v halves.variable then holds_in (newest_first nodes.old) halves.high v else holds_in (newest_first nodes.old) halves.low v) ≡ not (holds_in (newest_first nodes.old) a v) }
 
     ensures grows { GrowsBy nodes.old nodes.new complements.old complements.new a }
     ensures answer { IfOk result (IsComplement (newest_first nodes.new) a) }

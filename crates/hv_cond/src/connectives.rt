@@ -2,8 +2,8 @@
 ghost use Rattle.std.specs.Prelude.{◌≡◌, ℕ, ◌+◌, ◌<◌, ◌≤◌, List, Bool, if◌then◌else◌, IfNone, IfOk, IfSome, OnErr, OnOk};
 ghost use Rattle.std.specs.declared.option.Option.TheVariants.{Some, None};
 ghost use Rattle.hv_cond.specs.declared.nodes.Decision.{Decision};
-ghost use Rattle.hv_cond.specs.Diagram.{IsNode, holds, size, top, value_of};
-ghost use Rattle.hv_cond.specs.Nodes.{diagram, level, newest_first, IsReduced, MayBranch};
+ghost use Rattle.hv_cond.specs.Diagram.{holds_in, top, value_of};
+ghost use Rattle.hv_cond.specs.Nodes.{newest_first, IsReduced, MayBranch};
 ghost use Rattle.hv_cond.specs.Results.{known};
 ghost use Rattle.hv_cond.specs.Connectives.{absorbing, neutral, apply, AreAnswers, Grows, IsAnswer};
 
@@ -67,8 +67,8 @@ pub(crate) fn combine(
 ) -> Result<Cond, AllocError>
     requires reduced { IsReduced nodes.old }
     requires answers { AreAnswers connective (newest_first nodes.old) results.old }
-    requires first { IsNode (diagram nodes.old) a }
-    requires second { IsNode (diagram nodes.old) b }
+    requires first { a.index < top (newest_first nodes.old) }
+    requires second { b.index < top (newest_first nodes.old) }
 
     ensures grows { Grows connective nodes.old nodes.new results.old results.new a b }
     ensures answer { IfOk result (IsAnswer connective (newest_first nodes.new) a b) }
@@ -103,13 +103,13 @@ fn enter(
 ) -> Result<Cond, AllocError>
     requires reduced { IsReduced nodes.old }
     requires answers { AreAnswers connective (newest_first nodes.old) results.old }
-    requires first { IsNode (diagram nodes.old) a }
-    requires second { IsNode (diagram nodes.old) b }
+    requires first { a.index < top (newest_first nodes.old) }
+    requires second { b.index < top (newest_first nodes.old) }
     requires first_branch { 2 ≤ a.index }
     requires second_branch { 2 ≤ b.index }
     requires unknown { known results.old a b ≡ None }
     requires may_branch { MayBranch nodes.old halves }
-    requires meaning { (v : List Bool) → (if value_of v halves.variable then holds (diagram nodes.old) halves.high v else holds (diagram nodes.old) halves.low v) ≡ apply connective (holds (diagram nodes.old) a v) (holds (diagram nodes.old) b v) }
+    requires meaning { (v : List Bool) → (if value_of v halves.variable then holds_in (newest_first nodes.old) halves.high v else holds_in (newest_first nodes.old) halves.low v) ≡ apply connective (holds_in (newest_first nodes.old) a v) (holds_in (newest_first nodes.old) b v) }
 
     ensures grows { Grows connective nodes.old nodes.new results.old results.new a b }
     ensures answer { IfOk result (IsAnswer connective (newest_first nodes.new) a b) }

@@ -1,7 +1,7 @@
 //! The table of nodes, in which no branch is superfluous and none stands twice.
 ghost use Rattle.std.specs.Prelude.{◌≡◌, ◌≢◌, ℕ, ◌+◌, ◌<◌, ◌≤◌, [], ◌∷◌, ◌++◌, List, Bool, is_ok, length, if◌then◌else◌, IfNone, IfOk, IfSome, OnErr, OnOk};
-ghost use Rattle.hv_cond.specs.Diagram.{IsNode, holds, node, size, top, value_of};
-ghost use Rattle.hv_cond.specs.Nodes.{diagram, level, newest_first, place_of, Extends, IsBranch, IsDecision, IsHalves, IsReduced, MayBranch};
+ghost use Rattle.hv_cond.specs.Diagram.{holds_in, node_in, top, value_of};
+ghost use Rattle.hv_cond.specs.Nodes.{level, newest_first, place_of, Extends, IsBranch, IsDecision, IsHalves, IsReduced, MayBranch};
 
 use crate::conditions::{Cond, Node};
 use std::alloc::{AllocError, Global};
@@ -39,7 +39,7 @@ impl Nodes {
     /// The branch that a node is, unless it is a terminal.
     pub(crate) fn decision(&self, c: Cond) -> Option<Decision>
         requires reduced { IsReduced self.now }
-        requires node { IsNode (diagram self.now) c }
+        requires node { c.index < top (newest_first self.now) }
         ensures branch { IfSome result (IsBranch self.now.variables (newest_first self.now) c) }
         ensures terminal { IfNone result (c.index < 2) }
     {
@@ -51,8 +51,8 @@ impl Nodes {
 
     pub(crate) fn node(&self, c: Cond) -> Node
         requires reduced { IsReduced self.now }
-        requires node { IsNode (diagram self.now) c }
-        ensures { result ≡ node (diagram self.now) c }
+        requires node { c.index < top (newest_first self.now) }
+        ensures { result ≡ node_in (newest_first self.now) c }
     {
         match self.decision(c) {
             Some(
@@ -74,7 +74,7 @@ impl Nodes {
     /// The first variable that a condition depends on, or the number of variables.
     pub(crate) fn level(&self, c: Cond) -> u32
         requires reduced { IsReduced self.now }
-        requires node { IsNode (diagram self.now) c }
+        requires node { c.index < top (newest_first self.now) }
         ensures { result ≡ level self.now.variables (newest_first self.now) c }
     {
         match self.decision(c) {
@@ -86,7 +86,7 @@ impl Nodes {
     /// What a condition means where the variable is false, and where it is true.
     pub(crate) fn halves(&self, c: Cond, variable: u32) -> (Cond, Cond)
         requires reduced { IsReduced self.now }
-        requires node { IsNode (diagram self.now) c }
+        requires node { c.index < top (newest_first self.now) }
         requires in_range { variable < self.now.variables }
         requires level { variable ≤ level self.now.variables (newest_first self.now) c }
         ensures { IsHalves self.now.variables (newest_first self.now) c variable result.0 result.1 }
@@ -104,10 +104,10 @@ impl Nodes {
 
         ensures reduced { IsReduced self.new }
         ensures extends { Extends self.old self.new }
-        ensures grows { size (diagram self.new) ≤ size (diagram self.old) + 1 }
-        ensures err { OnErr result (size (diagram self.new) ≡ size (diagram self.old)) }
-        ensures node { IfOk result (IsNode (diagram self.new)) }
-        ensures meaning { IfOk result (λ c. (v : List Bool) → holds (diagram self.new) c v ≡ (if value_of v decision.variable then holds (diagram self.old) decision.high v else holds (diagram self.old) decision.low v)) }
+        ensures grows { length (newest_first self.new) ≤ length (newest_first self.old) + 1 }
+        ensures err { OnErr result (length (newest_first self.new) ≡ length (newest_first self.old)) }
+        ensures node { IfOk result (λ c. c.index < top (newest_first self.new)) }
+        ensures meaning { IfOk result (λ c. (v : List Bool) → holds_in (newest_first self.new) c v ≡ (if value_of v decision.variable then holds_in (newest_first self.old) decision.high v else holds_in (newest_first self.old) decision.low v)) }
     {
         if decision.low == decision.high {
             return Ok(decision.low);

@@ -1,7 +1,7 @@
 //! Walks down the branches of a condition.
-ghost use Rattle.std.specs.Prelude.{◌≡◌, ◌↔◌, length, IfOk, IfSome, IsNone};
-ghost use Rattle.hv_cond.specs.Diagram.{IsLeast, IsNever, IsNode, holds};
-ghost use Rattle.hv_cond.specs.Nodes.{diagram, IsReduced};
+ghost use Rattle.std.specs.Prelude.{◌≡◌, ◌<◌, ◌↔◌, length, IfOk, IfSome, IsNone};
+ghost use Rattle.hv_cond.specs.Diagram.{IsLeast, IsNever, holds_in, top};
+ghost use Rattle.hv_cond.specs.Nodes.{diagram, newest_first, IsReduced};
 
 use crate::conditions::Cond;
 use crate::nodes::Nodes;
@@ -10,9 +10,9 @@ use std::alloc::AllocError;
 /// Whether a condition holds where the variables have these values.
 pub(crate) fn eval(nodes: &Nodes, c: Cond, values: &[bool]) -> bool
     requires reduced { IsReduced nodes.now }
-    requires node { IsNode (diagram nodes.now) c }
+    requires node { c.index < top (newest_first nodes.now) }
     requires all_variables { length values.now ≡ nodes.now.variables }
-    ensures { result ≡ holds (diagram nodes.now) c values.now }
+    ensures { result ≡ holds_in (newest_first nodes.now) c values.now }
 {
     let mut at = c;
     while let Some(decision) = nodes.decision(at) {
@@ -28,7 +28,7 @@ pub(crate) fn eval(nodes: &Nodes, c: Cond, values: &[bool]) -> bool
 /// The first assignment that satisfies a condition, false before true.
 pub(crate) fn pick(nodes: &Nodes, c: Cond) -> Result<Option<Vec<bool>>, AllocError>
     requires reduced { IsReduced nodes.now }
-    requires node { IsNode (diagram nodes.now) c }
+    requires node { c.index < top (newest_first nodes.now) }
     ensures none { IfOk result (λ found. IsNone found ↔ IsNever (diagram nodes.now) c) }
     ensures least { IfOk result (λ found. IfSome found (λ values. IsLeast (diagram nodes.now) c values.items)) }
 {

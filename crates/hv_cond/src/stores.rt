@@ -34,6 +34,7 @@ impl Model for Store {
     ghost invariant = { λ s. IsSound s.nodes s.conjunctions s.disjunctions s.complements };
 }
 
+#[tactic(auto, unfolding(crate::specs::Diagram::IsNode, crate::specs::Diagram::holds, crate::specs::Diagram::node, crate::specs::Diagram::size))]
 impl Store {
     /// A store of conditions over `vars` variables, with truth and falsity alone.
     pub fn new(alloc: Global, vars: u32) -> Result<Store, AllocError>

@@ -7,6 +7,7 @@ use Rattle.hv_cond.proofs.Walking.{IsWalked-high, IsWalked-end}
 use Rattle.hv_cond.proofs.paths.pick.Goals as goal
 
 pub returns-then-eq-clause-none : goal.returns-then-eq-clause-none
+unfolding holds
 returns-then-eq-clause-none c =
     let zero : c.args.c.index ≡ 0 = eqb-true c.args.c.index 0 (sym c.if-eq.ensures) in
     (λ _ values len. holds_in-terminal (newest_first c.args.nodes.now) c.args.c values (omega arith) ∙ ap (λ (i : ℕ). i == 1) zero, λ _. refl)
@@ -16,6 +17,7 @@ loop-decision-preserved-then-eq-2 c =
     IsWalked-high c.args.nodes.now.variables (newest_first c.args.nodes.now) c.args.c c.loop-decision.at c.loop-decision.values.items c.in-Some.decision c.in-Some.ensures.branch c.loop-decision.invariant (eqb-true c.in-Some.decision.low.index 0 (sym c.if-eq-2.ensures))
 
 pub returns-clause-none : goal.returns-clause-none
+unfolding holds
 returns-clause-none c =
     let ds = newest_first c.args.nodes.now in
     let values = c.loop-decision.values.items in
@@ -23,6 +25,7 @@ returns-clause-none c =
     (λ e. absurd (true≢false e), λ never. absurd (both_ways (holds (diagram c.args.nodes.now) c.args.c values) (never values c.loop-decision.invariant.all_variables) satisfies))
 
 pub returns-clause-least : goal.returns-clause-least
+unfolding holds
 returns-clause-least c =
     let ds = newest_first c.args.nodes.now in
     record {

@@ -1,6 +1,6 @@
 use Rattle.std.proofs.Common.{◌≡◌, sym, ap, ◌∙◌, subst}
 use Rattle.hv_cond.specs.declared.conditions.Cond.{Cond}
-use Rattle.hv_cond.specs.Diagram.{Diagram, IsNever, IsNode, holds}
+use Rattle.hv_cond.specs.Diagram.{Diagram, IsNever, IsNode, holds, size, node}
 use Rattle.std.proofs.lemmas.Bool.{eqb-true, eq-eqb}
 use Rattle.hv_cond.proofs.Branches.{Cond-same}
 use Rattle.hv_cond.proofs.Combining.{falsity_fails}
@@ -8,6 +8,7 @@ use Rattle.hv_cond.proofs.Sound.{never_is_falsity}
 use Rattle.hv_cond.proofs.stores.Store.is_false.Goals as goal
 
 pub returns : goal.returns
+unfolding IsNode holds size node
 returns c =
     let s = c.self.inside.nodes in
     let is_node = subst (λ (d : Diagram). IsNode d c.args.c) (sym c.self.view_is) c.requires in (

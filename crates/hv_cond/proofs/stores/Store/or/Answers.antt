@@ -1,6 +1,6 @@
 use Rattle.std.proofs.Common.{◌≡◌, ◌+◌, ◌*◌, ◌≤◌, ◌||◌, Bool, List, IfOk, sym, subst}
 use Rattle.hv_cond.specs.declared.connectives.Connective.TheVariants.{And, Or}
-use Rattle.hv_cond.specs.Diagram.{Diagram, IsNode, Keeps, holds, nodes, size}
+use Rattle.hv_cond.specs.Diagram.{Diagram, IsNode, Keeps, holds, nodes, size, node}
 use Rattle.hv_cond.specs.Nodes.{diagram}
 use Rattle.hv_cond.proofs.Combining.{Extends-answers}
 use Rattle.hv_cond.proofs.Complementing.{Extends-complements}
@@ -8,6 +8,7 @@ use Rattle.hv_cond.proofs.Sound.{Keeps-from, bound_by_pairs, meaning_of_answer}
 use Rattle.hv_cond.proofs.stores.Store.or.Goals as goal
 
 pub invariant_of-self : goal.invariant_of-self
+unfolding IsNode holds size node
 invariant_of-self c =
     let e = c.combine.ensures.grows.extends in
     let s = c.self.inside in
@@ -20,9 +21,11 @@ invariant_of-self c =
     }
 
 pub returns-clause-keeps : goal.returns-clause-keeps
+unfolding IsNode holds size node
 returns-clause-keeps c = subst (λ (d : Diagram). Keeps d (diagram c.combine.new.nodes)) c.self.view_is (Keeps-from c.combine.ensures.grows.extends)
 
 pub returns-clause-bound : goal.returns-clause-bound
+unfolding IsNode holds size node
 returns-clause-bound c =
     let s = c.self.inside in
     let first = subst (λ (d : Diagram). IsNode d c.args.a) (sym c.self.view_is) c.requires.first in
@@ -31,6 +34,7 @@ returns-clause-bound c =
     (bound_by_pairs Or s.nodes c.combine.new.nodes s.disjunctions c.combine.new.results c.args.a c.args.b c.self.invariant.reduced first second c.combine.ensures.grows)
 
 pub returns-clause-meaning : goal.returns-clause-meaning
+unfolding IsNode holds size node
 returns-clause-meaning c =
     let s = c.self.inside in
     let first = subst (λ (d : Diagram). IsNode d c.args.a) (sym c.self.view_is) c.requires.first in

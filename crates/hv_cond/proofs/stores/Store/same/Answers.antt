@@ -1,12 +1,13 @@
 use Rattle.std.proofs.Common.{sym, ap, ◌∙◌, subst}
 use Rattle.hv_cond.specs.declared.conditions.Cond.{Cond}
-use Rattle.hv_cond.specs.Diagram.{Diagram, IsNode, SameMeaning, holds}
+use Rattle.hv_cond.specs.Diagram.{Diagram, IsNode, SameMeaning, holds, size, node}
 use Rattle.std.proofs.lemmas.Bool.{eqb-true, eq-eqb}
 use Rattle.hv_cond.proofs.Branches.{Cond-same}
 use Rattle.hv_cond.proofs.Sound.{one_node}
 use Rattle.hv_cond.proofs.stores.Store.same.Goals as goal
 
 pub returns-clause-meaning : goal.returns-clause-meaning
+unfolding IsNode holds size node
 returns-clause-meaning c =
     let s = c.self.inside.nodes in
     let first = subst (λ (d : Diagram). IsNode d c.args.a) (sym c.self.view_is) c.requires.first in
