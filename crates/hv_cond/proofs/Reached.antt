@@ -1,13 +1,14 @@
 -- The branches that are reached from a condition.
-use Rattle.std.proofs.Common.{◌≡◌, ◌==◌, ◌+◌, ◌<◌, ◌≤◌, ℕ, Bool, true, false, cond, ◌||◌, List, [], ◌∷◌, length, zero, suc, refl, sym, ap, ◌∙◌, inl, inr, ⊎_elim, ◌⊎◌, subst, arith, eq-eqb, count_by}
+use Rattle.std.proofs.Common.{◌≡◌, ◌==◌, ◌+◌, ◌<◌, ◌≤◌, ℕ, Bool, true, false, cond, ◌||◌, List, [], ◌∷◌, length, zero, suc, refl, sym, ap, ◌∙◌, inl, inr, ⊎_elim, ◌⊎◌, subst, arith, eq-eqb, count_by, ◌++◌, length-append, zero-add}
 use Rattle.std.specs.List.{range_with_len}
-use Rattle.std.proofs.lemmas.Bool.{cond-true, cond-false, cases_eq, eqb-true, or_cases, or_left, or_right, both_ways}
+use Rattle.std.proofs.lemmas.Bool.{cond-true, cond-false, cases_eq, eqb-true, or_cases, or_left, or_right, both_ways, ne_eqb, cases_Bool}
 use Rattle.std.proofs.lemmas.List.Sums.{sum_by-cons}
 use Rattle.hv_cond.specs.declared.conditions.Cond.{Cond}
 use Rattle.hv_cond.specs.declared.conditions.Node.TheVariants.{Branch}
 use Rattle.hv_cond.specs.declared.nodes.Decision.{Decision}
 use Rattle.hv_cond.specs.Diagram.{top, node_in, reaches_in}
 use Rattle.hv_cond.specs.Nodes.{Among, Within, IsClosed, IsOrdered}
+use Rattle.hv_cond.proofs.Lifts.{node_lifts}
 use Rattle.hv_cond.proofs.Branches.{apart, Cond-same, node_in-top, node_in-below}
 
 -- the conditions of the indices that pass the test
@@ -57,6 +58,10 @@ reaches-top d older c i e = cond-true _ _ _ (eq-eqb _ _ e)
 reaches-below : (d : Decision) (older : List Decision) (c : Cond) (i : ℕ) → c.index < top older → reaches_in (d ∷ older) c i ≡ reaches_in older c i
 unfolding reaches_in
 reaches-below d older c i l = cond-false _ _ _ (apart c older l)
+
+reaches-other : (d : Decision) (older : List Decision) (c : Cond) (i : ℕ) → (c.index ≡ top older → ⊥) → reaches_in (d ∷ older) c i ≡ reaches_in older c i
+unfolding reaches_in
+reaches-other d older c i ne = cond-false _ _ _ (ne_eqb c.index (top older) ne)
 
 reaches-none : (c : Cond) (i : ℕ) → reaches_in [] c i ≡ false
 unfolding reaches_in
@@ -138,3 +143,48 @@ reached-closed n ds o c l =
             λ t. let z = reaches-child n ds o c x high i low high l h is (inr refl) t in Among-passing (reaches_in ds c) (length ds) 2 high t (below high z) z,
           );
     }
+
+-- only branches of the list are reached
+reaches-inside : (ds : List Decision) (c : Cond) (i : ℕ) → reaches_in ds c i ≡ true → i < top ds
+reaches-inside [] c i h = absurd (both_ways (reaches_in [] c i) (reaches-none c i) h)
+reaches-inside (d ∷ older) c i h =
+    ⊎_elim (λ (e : c.index ≡ top older).
+    ⊎_elim (λ (here : (i == c.index) ≡ true). let same : i ≡ c.index = eqb-true i c.index here in omega arith)
+    (λ (r : (reaches_in older d.low i || reaches_in older d.high i) ≡ true).
+    ⊎_elim (λ (low : reaches_in older d.low i ≡ true). let p = reaches-inside older d.low i low in omega arith) (λ (high : reaches_in older d.high i ≡ true). let p = reaches-inside older d.high i high in omega arith) (or_cases _ _ r))
+    (or_cases _ _ (sym (reaches-top d older c i e) ∙ h)))
+    (λ (ne : c.index ≡ top older → ⊥). let p = reaches-inside older c i (sym (reaches-other d older c i ne) ∙ h) in omega arith)
+    (cases_eq c.index (top older))
+
+-- newer branches are not reached from an older node
+reaches-append : (added ds : List Decision) (c : Cond) (i : ℕ) → c.index < top ds → reaches_in (added ++ ds) c i ≡ reaches_in ds c i
+reaches-append [] ds c i l = refl
+reaches-append (d ∷ added) ds c i l = reaches-below d (added ++ ds) c i (node_lifts added ds c l) ∙ reaches-append added ds c i l
+
+count-same : (p q : ℕ → Bool) → ((i : ℕ) → p i ≡ q i) → (is : List ℕ) → count_by p is ≡ count_by q is
+count-same p q h [] = refl
+count-same p q h (i ∷ is) =
+    sum_by-cons (λ (x : ℕ). cond (p x) 1 0) i is ∙ ap (λ (b : Bool). cond b 1 0 + count_by p is) (h i) ∙ ap (λ (n : ℕ). cond (q i) 1 0 + n) (count-same p q h is) ∙ sym (sum_by-cons (λ (x : ℕ). cond (q x) 1 0) i is)
+
+count-none : (p : ℕ → Bool) (m a : ℕ) → ((i : ℕ) → a ≤ i → p i ≡ false) → count_by p (range_with_len a m) ≡ 0
+count-none p zero a h = refl
+count-none p (suc m) a h =
+    let first : cond {A = ℕ} (p a) 1 0 ≡ 0 = cond-false (p a) 1 0 (h a (omega arith)) in
+    let rest = count-none p m (a + 1) (λ i l. h i (omega arith)) in
+    sum_by-cons (λ (x : ℕ). cond (p x) 1 0) a (range_with_len (a + 1) m) ∙ omega arith
+
+-- what lies past the end is not counted
+count-past : (p : ℕ → Bool) (n m a : ℕ) → ((i : ℕ) → a + n ≤ i → p i ≡ false) → count_by p (range_with_len a (n + m)) ≡ count_by p (range_with_len a n)
+count-past p zero m a h = rw (zero-add m) (count-none p m a (λ i l. h i (omega arith)))
+count-past p (suc n) m a h =
+    let shift : suc n + m ≡ suc (n + m) = omega arith in
+    ap (λ (k : ℕ). count_by p (range_with_len a k)) shift ∙ sum_by-cons (λ (x : ℕ). cond (p x) 1 0) a (range_with_len (a + 1) (n + m))
+    ∙ ap (λ (k : ℕ). cond (p a) 1 0 + k) (count-past p n m (a + 1) (λ i l. h i (omega arith))) ∙ sym (sum_by-cons (λ (x : ℕ). cond (p x) 1 0) a (range_with_len (a + 1) n))
+
+-- as many branches are reached as before
+pub reached-append : (added ds : List Decision) (c : Cond) → c.index < top ds → count_by (reaches_in (added ++ ds) c) (range_with_len 2 (length (added ++ ds))) ≡ count_by (reaches_in ds c) (range_with_len 2 (length ds))
+reached-append added ds c l =
+    let len : length (added ++ ds) ≡ length ds + length added = (let e = length-append added ds in omega arith) in
+    count-same (reaches_in (added ++ ds) c) (reaches_in ds c) (λ i. reaches-append added ds c i l) (range_with_len 2 (length (added ++ ds)))
+    ∙ ap (λ (k : ℕ). count_by (reaches_in ds c) (range_with_len 2 k)) len
+    ∙ count-past (reaches_in ds c) (length ds) (length added) 2 (λ i far. ⊎_elim (λ (t : reaches_in ds c i ≡ true). let p = reaches-inside ds c i t in absurd (omega arith)) (λ (f : reaches_in ds c i ≡ false). f) (cases_Bool (reaches_in ds c i)))

@@ -1,5 +1,5 @@
 -- What the calls of a store leave and answer, of the diagram that callers see.
-use Rattle.std.proofs.Common.{◌≡◌, ◌==◌, ◌+◌, ◌*◌, ◌<◌, ◌≤◌, ℕ, Bool, true, false, cond, not, List, length, Result, Ok, Err, IfOk, sym, ap, ◌∙◌, ⊎_elim, subst, arith}
+use Rattle.std.proofs.Common.{◌≡◌, ◌==◌, ◌+◌, ◌*◌, ◌<◌, ◌≤◌, ℕ, Bool, true, false, cond, not, List, length, Result, Ok, Err, IfOk, sym, ap, ◌∙◌, ⊎_elim, subst, arith, length-append}
 use Rattle.std.specs.List.{range_with_len}
 use Rattle.std.specs.declared.alloc.AllocError.{AllocError}
 use Rattle.std.proofs.lemmas.Bool.{cond-true, cond-false, cases_lt, cases_eq, eq-eqb, ne_eqb}
@@ -19,18 +19,20 @@ use Rattle.hv_cond.proofs.Branches.{Cond-same, branch_of, level-terminal, node_i
 use Rattle.hv_cond.proofs.Canonical.{canonical}
 use Rattle.hv_cond.proofs.Combining.{truth_holds, falsity_fails}
 use Rattle.hv_cond.proofs.Counts.{open_pairs-le, open_among-le}
-use Rattle.hv_cond.proofs.Reached.{reached, reached-within, reached-closed, length-passing}
+use Rattle.hv_cond.proofs.Reached.{reached, reached-append, reached-within, reached-closed, length-passing}
 use Rattle.hv_cond.proofs.Tables.{Extends-node, Extends-holds, Extends-node_in}
 
 -- a table that extends another keeps its nodes
 pub Keeps-from : {old new : Nodes} → Extends old new → Keeps (diagram old) (diagram new)
-unfolding IsNode holds node
-Keeps-from e =
+unfolding IsNode holds node nodes size
+Keeps-from {old} {new} e =
     record {
       variables = e.variables;
       stays = λ c l. Extends-node e c l;
       meaning = λ c l v. Extends-holds e c v l;
       same_node = λ c l. Extends-node_in e c l;
+      same_reach = λ c l. rw e.decisions (reached-append e.added (newest_first old) c l);
+      grows = (let len = ap (λ (ds : List Decision). length ds) e.decisions ∙ length-append e.added (newest_first old) in omega arith);
     }
 
 -- the number of branches reached, as the length of their list

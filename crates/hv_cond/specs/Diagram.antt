@@ -1,5 +1,5 @@
 -- What conditions mean. A store is seen as a diagram: how many variables there are, and its branches.
-use Rattle.std.specs.Prelude.{◌≡◌, ◌≢◌, ◌==◌, ◌+◌, ◌<◌, ℕ, Bool, true, false, ◌||◌, if◌then◌else◌, List, [], ◌∷◌, length, count_by}
+use Rattle.std.specs.Prelude.{◌≡◌, ◌≢◌, ◌==◌, ◌+◌, ◌<◌, ◌≤◌, ℕ, Bool, true, false, ◌||◌, if◌then◌else◌, List, [], ◌∷◌, length, count_by}
 use Rattle.std.specs.List.{slice_index_or, range_with_len}
 use Rattle.hv_cond.specs.declared.conditions.Cond.{Cond}
 use Rattle.hv_cond.specs.declared.conditions.Node.{Node}
@@ -62,6 +62,8 @@ pub record Keeps (old new : Diagram) : Type 0 where
   pub stays : (c : Cond) → IsNode old c → IsNode new c
   pub meaning : (c : Cond) → IsNode old c → (values : List Bool) → holds new c values ≡ holds old c values
   pub same_node : (c : Cond) → IsNode old c → node new c ≡ node old c
+  pub same_reach : (c : Cond) → IsNode old c → nodes new c ≡ nodes old c
+  pub grows : size old ≤ size new
 
 -- no assignment satisfies the condition
 abbrev pub IsNever : Diagram → Cond → Type 0

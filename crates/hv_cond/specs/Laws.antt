@@ -1,13 +1,14 @@
 -- Laws of conditions, for proofs above.
 use Rattle.std.specs.Prelude.{◌≡◌, Bool, true, false, ◌&&◌, not, List, refl}
 use Rattle.std.proofs.Common.{sym, ap, ◌∙◌}
+use Rattle.std.proofs.Math.Nat.{le_refl, le_trans}
 use Rattle.std.proofs.lemmas.Bool.{true_from_ne_false, both_ways}
 use Rattle.hv_cond.specs.declared.conditions.Cond.{Cond}
-use Rattle.hv_cond.specs.Diagram.{AreDisjoint, Diagram, Implies, IsNever, IsNode, Keeps, holds}
+use Rattle.hv_cond.specs.Diagram.{AreDisjoint, Diagram, Implies, IsNever, IsNode, Keeps, holds, size}
 
 -- a diagram keeps its own nodes
 pub Keeps-refl : (d : Diagram) → Keeps d d
-Keeps-refl d = record { variables = refl; stays = λ c l. l; meaning = λ c l values. refl; same_node = λ c l. refl }
+Keeps-refl d = record { variables = refl; stays = λ c l. l; meaning = λ c l values. refl; same_node = λ c l. refl; same_reach = λ c l. refl; grows = le_refl (size d) }
 
 -- what is kept twice is kept
 pub Keeps-trans : {old mid new : Diagram} → Keeps old mid → Keeps mid new → Keeps old new
@@ -17,6 +18,8 @@ Keeps-trans e f =
       stays = λ c l. f.stays c (e.stays c l);
       meaning = λ c l values. f.meaning c (e.stays c l) values ∙ e.meaning c l values;
       same_node = λ c l. f.same_node c (e.stays c l) ∙ e.same_node c l;
+      same_reach = λ c l. f.same_reach c (e.stays c l) ∙ e.same_reach c l;
+      grows = le_trans e.grows f.grows;
     }
 
 -- a condition that is never kept true stays so

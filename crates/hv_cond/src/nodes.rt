@@ -91,9 +91,13 @@ impl Nodes {
         requires level { variable ≤ level self.now.variables (newest_first self.now) c }
         ensures { IsHalves self.now.variables (newest_first self.now) c variable result.0 result.1 }
     {
-        match self.decision(c) {
-            Some(decision) if decision.variable == variable => (decision.low, decision.high),
-            _ => (c, c),
+        let Some(decision) = self.decision(c) else {
+            return (c, c);
+        };
+        if decision.variable == variable {
+            (decision.low, decision.high)
+        } else {
+            (c, c)
         }
     }
 
