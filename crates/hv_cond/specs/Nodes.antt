@@ -15,6 +15,10 @@ newest_first nodes = reverse nodes.decisions.items
 abbrev pub diagram : Nodes → Diagram
 diagram nodes = record { variables = nodes.variables; decisions = newest_first nodes }
 
+-- what a branch means: `high` where its variable is true, and `low` where it is not
+abbrev pub choice : List Decision → Decision → List Bool → Bool
+choice ds d v = if value_of v d.variable then holds_in ds d.high v else holds_in ds d.low v
+
 -- the first variable that a condition depends on, or the number of variables
 unfoldable pub level : ℕ → List Decision → Cond → ℕ
 level variables [] c = variables
@@ -62,7 +66,7 @@ pub record IsBranch (variables : ℕ) (ds : List Decision) (c : Cond) (d : Decis
   pub level_is : level variables ds c ≡ d.variable
   pub low_later : d.variable < level variables ds d.low
   pub high_later : d.variable < level variables ds d.high
-  pub meaning : (v : List Bool) → holds_in ds c v ≡ (if value_of v d.variable then holds_in ds d.high v else holds_in ds d.low v)
+  pub meaning : (v : List Bool) → holds_in ds c v ≡ choice ds d v
   pub placed : place_of ds d ≡ Some c
 
 -- a list of branches has this condition

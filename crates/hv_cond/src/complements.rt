@@ -2,7 +2,7 @@
 ghost use Rattle.std.specs.Prelude.{◌≡◌, ℕ, ◌+◌, ◌<◌, ◌≤◌, List, Bool, not, if◌then◌else◌, IfOk, OnOk};
 ghost use Rattle.std.specs.declared.option.Option.TheVariants.{Some, None};
 ghost use Rattle.hv_cond.specs.Diagram.{holds_in, top, value_of};
-ghost use Rattle.hv_cond.specs.Nodes.{newest_first, IsReduced, MayBranch};
+ghost use Rattle.hv_cond.specs.Nodes.{choice, newest_first, IsReduced, MayBranch};
 ghost use Rattle.hv_cond.specs.Complements.{complement_of, room, same_cond, AreComplements, GrowsBy, IsComplement};
 
 use crate::conditions::Cond;
@@ -42,7 +42,8 @@ impl Complements {
     /// Keeps a complement, for which there is room.
     fn record(&mut self, c: Cond, answer: Cond)
         requires { 0 < room self.old }
-        ensures answer { (x : Cond) → complement_of self.new x ≡ (if same_cond c x then Some answer else complement_of self.old x) }
+        ensures answer { (x : Cond) →
+            complement_of self.new x ≡ (if same_cond c x then Some answer else complement_of self.old x) }
         ensures room { room self.old ≤ room self.new + 1 }
     {
         let Ok(_) = self.answers.insert(c, answer) else {
@@ -105,7 +106,8 @@ fn enter(
     requires is_branch { 2 ≤ a.index }
     requires unknown { complement_of complements.old a ≡ None }
     requires may_branch { MayBranch nodes.old halves }
-    requires meaning { (v : List Bool) → (if value_of v halves.variable then holds_in (newest_first nodes.old) halves.high v else holds_in (newest_first nodes.old) halves.low v) ≡ not (holds_in (newest_first nodes.old) a v) }
+    requires meaning { (v : List Bool) →
+        choice (newest_first nodes.old) halves v ≡ not (holds_in (newest_first nodes.old) a v) }
 
     ensures grows { GrowsBy nodes.old nodes.new complements.old complements.new a }
     ensures answer { IfOk result (IsComplement (newest_first nodes.new) a) }

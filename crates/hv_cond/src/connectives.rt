@@ -3,7 +3,7 @@ ghost use Rattle.std.specs.Prelude.{◌≡◌, ℕ, ◌+◌, ◌<◌, ◌≤◌,
 ghost use Rattle.std.specs.declared.option.Option.TheVariants.{Some, None};
 ghost use Rattle.hv_cond.specs.declared.nodes.Decision.{Decision};
 ghost use Rattle.hv_cond.specs.Diagram.{holds_in, top, value_of};
-ghost use Rattle.hv_cond.specs.Nodes.{newest_first, IsReduced, MayBranch};
+ghost use Rattle.hv_cond.specs.Nodes.{choice, newest_first, IsReduced, MayBranch};
 ghost use Rattle.hv_cond.specs.Results.{known};
 ghost use Rattle.hv_cond.specs.Connectives.{absorbing, neutral, apply, AreAnswers, Grows, IsAnswer};
 
@@ -42,7 +42,8 @@ impl Connective {
 
     /// The answer where it is seen at once; else both conditions are branches.
     fn shortcut(self, a: Cond, b: Cond) -> Option<Cond>
-        ensures answer { IfSome result (λ c. (ds : List Decision) → a.index < top ds → b.index < top ds → IsAnswer self ds a b c) }
+        ensures answer { IfSome result
+            (λ c. (ds : List Decision) → a.index < top ds → b.index < top ds → IsAnswer self ds a b c) }
         ensures branches { IfNone result ((2 ≤ a.index) × (2 ≤ b.index)) }
     {
         let absorbing = self.absorbing();
@@ -109,7 +110,9 @@ fn enter(
     requires second_branch { 2 ≤ b.index }
     requires unknown { known results.old a b ≡ None }
     requires may_branch { MayBranch nodes.old halves }
-    requires meaning { (v : List Bool) → (if value_of v halves.variable then holds_in (newest_first nodes.old) halves.high v else holds_in (newest_first nodes.old) halves.low v) ≡ apply connective (holds_in (newest_first nodes.old) a v) (holds_in (newest_first nodes.old) b v) }
+    requires meaning { (v : List Bool) →
+        choice (newest_first nodes.old) halves v
+        ≡ apply connective (holds_in (newest_first nodes.old) a v) (holds_in (newest_first nodes.old) b v) }
 
     ensures grows { Grows connective nodes.old nodes.new results.old results.new a b }
     ensures answer { IfOk result (IsAnswer connective (newest_first nodes.new) a b) }

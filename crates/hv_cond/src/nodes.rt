@@ -1,7 +1,7 @@
 //! The table of nodes, in which no branch is superfluous and none stands twice.
 ghost use Rattle.std.specs.Prelude.{◌≡◌, ◌≢◌, ℕ, ◌+◌, ◌<◌, ◌≤◌, [], ◌∷◌, ◌++◌, List, Bool, is_ok, length, if◌then◌else◌, IfNone, IfOk, IfSome, OnErr, OnOk};
 ghost use Rattle.hv_cond.specs.Diagram.{holds_in, node_in, top, value_of};
-ghost use Rattle.hv_cond.specs.Nodes.{level, newest_first, place_of, Extends, IsBranch, IsDecision, IsHalves, IsReduced, MayBranch};
+ghost use Rattle.hv_cond.specs.Nodes.{choice, level, newest_first, place_of, Extends, IsBranch, IsDecision, IsHalves, IsReduced, MayBranch};
 
 use crate::conditions::{Cond, Node};
 use std::alloc::{AllocError, Global};
@@ -111,7 +111,9 @@ impl Nodes {
         ensures grows { length (newest_first self.new) ≤ length (newest_first self.old) + 1 }
         ensures err { OnErr result (length (newest_first self.new) ≡ length (newest_first self.old)) }
         ensures node { IfOk result (λ c. c.index < top (newest_first self.new)) }
-        ensures meaning { IfOk result (λ c. (v : List Bool) → holds_in (newest_first self.new) c v ≡ (if value_of v decision.variable then holds_in (newest_first self.old) decision.high v else holds_in (newest_first self.old) decision.low v)) }
+        ensures meaning { IfOk result
+            (λ c. (v : List Bool) →
+            holds_in (newest_first self.new) c v ≡ choice (newest_first self.old) decision v) }
     {
         if decision.low == decision.high {
             return Ok(decision.low);

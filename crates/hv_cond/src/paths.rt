@@ -30,7 +30,8 @@ pub(crate) fn pick(nodes: &Nodes, c: Cond) -> Result<Option<Vec<bool>>, AllocErr
     requires reduced { IsReduced nodes.now }
     requires node { c.index < top (newest_first nodes.now) }
     ensures none { IfOk result (λ found. IsNone found ↔ IsNever (diagram nodes.now) c) }
-    ensures least { IfOk result (λ found. IfSome found (λ values. IsLeast (diagram nodes.now) c values.items)) }
+    ensures least { IfOk result
+        (λ found. IfSome found (λ values. IsLeast (diagram nodes.now) c values.items)) }
 {
     if c == Cond::FALSITY {
         return Ok(None);

@@ -71,7 +71,8 @@ impl Store {
         ensures keeps { Keeps self.old self.new }
         ensures bound { size self.new ≤ size self.old + 1 }
         ensures node { IfOk result (IsNode self.new) }
-        ensures meaning { IfOk result (λ c. (values : List Bool) → holds self.new c values ≡ value_of values i) }
+        ensures meaning { IfOk result
+            (λ c. (values : List Bool) → holds self.new c values ≡ value_of values i) }
     {
         self.nodes.branch(Decision {
             variable: i,
@@ -85,9 +86,12 @@ impl Store {
         requires first { IsNode self.old a }
         requires second { IsNode self.old b }
         ensures keeps { Keeps self.old self.new }
-        ensures bound { size self.new ≤ size self.old + (nodes self.old a + 1) * (nodes self.old b + 1) }
+        ensures bound { size self.new
+            ≤ size self.old + (nodes self.old a + 1) * (nodes self.old b + 1) }
         ensures node { IfOk result (IsNode self.new) }
-        ensures meaning { IfOk result (λ c. (values : List Bool) → holds self.new c values ≡ (holds self.old a values && holds self.old b values)) }
+        ensures meaning { IfOk result
+            (λ c. (values : List Bool) →
+            holds self.new c values ≡ (holds self.old a values && holds self.old b values)) }
     {
         combine(
             &mut self.nodes,
@@ -103,9 +107,12 @@ impl Store {
         requires first { IsNode self.old a }
         requires second { IsNode self.old b }
         ensures keeps { Keeps self.old self.new }
-        ensures bound { size self.new ≤ size self.old + (nodes self.old a + 1) * (nodes self.old b + 1) }
+        ensures bound { size self.new
+            ≤ size self.old + (nodes self.old a + 1) * (nodes self.old b + 1) }
         ensures node { IfOk result (IsNode self.new) }
-        ensures meaning { IfOk result (λ c. (values : List Bool) → holds self.new c values ≡ (holds self.old a values || holds self.old b values)) }
+        ensures meaning { IfOk result
+            (λ c. (values : List Bool) →
+            holds self.new c values ≡ (holds self.old a values || holds self.old b values)) }
     {
         combine(
             &mut self.nodes,
@@ -122,7 +129,8 @@ impl Store {
         ensures keeps { Keeps self.old self.new }
         ensures bound { size self.new ≤ size self.old + nodes self.old a }
         ensures node { IfOk result (IsNode self.new) }
-        ensures meaning { IfOk result (λ c. (values : List Bool) → holds self.new c values ≡ not (holds self.old a values)) }
+        ensures meaning { IfOk result
+            (λ c. (values : List Bool) → holds self.new c values ≡ not (holds self.old a values)) }
     {
         complement(&mut self.nodes, &mut self.complements, a)
     }
@@ -163,7 +171,8 @@ impl Store {
     pub fn pick(&self, c: Cond) -> Result<Option<Vec<bool>>, AllocError>
         requires { IsNode self.now c }
         ensures none { IfOk result (λ found. IsNone found ↔ IsNever self.now c) }
-        ensures least { IfOk result (λ found. IfSome found (λ values. IsLeast self.now c values.items)) }
+        ensures least { IfOk result
+            (λ found. IfSome found (λ values. IsLeast self.now c values.items)) }
     {
         paths::pick(&self.nodes, c)
     }
