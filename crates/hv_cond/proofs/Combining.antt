@@ -14,8 +14,8 @@ use Rattle.hv_cond.specs.Results.{known, is_same_pair, ordered_pair}
 use Rattle.hv_cond.specs.Connectives.{apply, absorbing, neutral, AreAnswers, Grows, IsAnswer}
 use Rattle.hv_cond.proofs.Branches.{Cond-same, holds_in-terminal, holds_in-set, level-le}
 use Rattle.hv_cond.proofs.Canonical.{level_from_meaning}
-use Rattle.hv_cond.proofs.Counts.{open_pairs-fills, open_pairs-answered}
-use Rattle.hv_cond.proofs.Tables.{Extends-refl, Extends-trans, Extends-node, Extends-holds, Extends-level, Extends-closed}
+use Rattle.hv_cond.proofs.Counts.{open_pairs-answered}
+use Rattle.hv_cond.proofs.Tables.{Extends-trans, Extends-node, Extends-holds, Extends-level, Extends-closed}
 
 -- truth holds, and falsity does not
 pub truth_holds : (ds : List Decision) (v : List Bool) → holds_in ds (record { index = 1 }) v ≡ true
@@ -110,11 +110,6 @@ answer_later n ds o k a b c h i before_a before_b =
     h.meaning (set v j x) ∙ ap (λ (y : Bool). apply k y (holds_in ds b (set v j x))) at_a ∙ ap (λ (y : Bool). apply k (holds_in ds a v) y) at_b ∙ sym (h.meaning v)) in
     omega arith
 
--- the tables are as they were
-pub Grows-refl : (k : Connective) (old : Nodes) (before : Results) (a b : Cond) → IsReduced old → AreAnswers k (newest_first old) before → Grows k old old before before a b
-Grows-refl k old before a b reduced answers =
-    record { reduced = reduced; extends = Extends-refl old; answers = answers; later = λ x y l. refl; bound = λ xs ys cx cy wx wy. omega arith }
-
 -- a pair is the same as itself
 is_same_pair-self : (a b : Cond) → is_same_pair a b a b ≡ true
 unfolding is_same_pair
@@ -186,18 +181,6 @@ Grows-enter k old new before after a b c reduced extends grows answers answer un
       bound = λ xs ys cx cy wx wy.
           let less = open_pairs-answered (known before) (known after) (Records-fills before after a b c r) a b unknown (ap is_some (r a b ∙ cond-true _ _ _ (is_same_pair-self a b))) xs ys (wx first) (wy second) in
           omega arith;
-    }
-
--- no branch was added, and no answer
-pub Grows-failed : (k : Connective) (old new : Nodes) (before after : Results) (a b : Cond) → IsReduced new → Extends old new → length (newest_first new) ≡ length (newest_first old) → AreAnswers k (newest_first old) before
-    → ((x y : Cond) → known after x y ≡ known before x y) → Grows k old new before after a b
-Grows-failed k old new before after a b reduced extends grows answers same =
-    record {
-      reduced = reduced;
-      extends = extends;
-      answers = record { each = λ x y z kn. (Extends-answers extends k before answers).each x y z (sym (same x y) ∙ kn) };
-      later = λ x y l. same x y;
-      bound = λ xs ys cx cy wx wy. let le = open_pairs-fills (known before) (known after) (λ x y h. ap is_some (same x y) ∙ h) xs ys in omega arith;
     }
 
 -- the pair is among those reached from another

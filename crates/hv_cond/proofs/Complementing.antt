@@ -11,7 +11,7 @@ use Rattle.hv_cond.specs.Diagram.{top, holds_in, value_of}
 use Rattle.hv_cond.specs.Nodes.{newest_first, level, Extends, Within, IsBranch, IsClosed, IsOrdered, IsReduced, MayBranch}
 use Rattle.hv_cond.proofs.Branches.{Cond-same, holds_in-terminal, holds_in-set, level-le}
 use Rattle.hv_cond.proofs.Canonical.{level_from_meaning}
-use Rattle.hv_cond.proofs.Counts.{open_among-fills, open_among-answered}
+use Rattle.hv_cond.proofs.Counts.{open_among-answered}
 use Rattle.hv_cond.proofs.Tables.{Extends-trans, Extends-node, Extends-holds, Extends-level, Extends-closed}
 
 not_not : (x y : Bool) → x ≡ not y → y ≡ not x
@@ -100,18 +100,6 @@ GrowsBy-enter old new before after a c reduced extends grows answers node h unkn
       bound = λ xs cx wx.
           let less = open_among-answered (complement_of before) (complement_of after) (Records-fills before after a c r) a unknown (Records-here before after a c r) xs (wx is_branch) in
           omega arith;
-    }
-
--- no branch was added, and no complement
-pub GrowsBy-failed : (old new : Nodes) (before after : Complements) (a : Cond) → IsReduced new → Extends old new → length (newest_first new) ≡ length (newest_first old) → AreComplements (newest_first old) before
-    → ((x : Cond) → complement_of after x ≡ complement_of before x) → GrowsBy old new before after a
-GrowsBy-failed old new before after a reduced extends grows answers same =
-    record {
-      reduced = reduced;
-      extends = extends;
-      answers = record { each = λ x z kn. (Extends-complements extends before answers).each x z (sym (same x) ∙ kn) };
-      earlier = λ x l before_a. same x;
-      bound = λ xs cx wx. let le = open_among-fills (complement_of before) (complement_of after) (λ x h. ap is_some (same x) ∙ h) xs in omega arith;
     }
 
 -- the condition is among those reached from another

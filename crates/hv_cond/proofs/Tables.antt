@@ -94,19 +94,6 @@ IsHalves-whole n ds c i before =
       within = λ xs closed w. (w, w);
     }
 
--- the halves of a branch
-pub IsHalves-branch : (n : ℕ) (ds : List Decision) (c : Cond) (d : Decision) → 2 ≤ c.index → IsBranch n ds c d → IsHalves n ds c d.variable d.low d.high
-IsHalves-branch n ds c d t f =
-    record {
-      low_older = let h = f.low_older in omega arith;
-      high_older = let h = f.high_older in omega arith;
-      smaller = λ _. (f.low_older, f.high_older);
-      low_later = f.low_later;
-      high_later = f.high_later;
-      meaning = f.meaning;
-      within = λ xs closed w. closed.children c d.variable d.low d.high (w t) f.is;
-    }
-
 -- what stays in a table that extends another
 pub Extends-refl : (old : Nodes) → Extends old old
 Extends-refl old = record { variables = refl; added = []; decisions = refl }

@@ -1,41 +1,13 @@
 -- Lemmas on a walk down the branches of a condition.
-use Rattle.std.proofs.Common.{◌≡◌, ◌==◌, ◌<◌, ◌≤◌, ℕ, Bool, true, false, List, length, refl, sym, ap, ◌∙◌, ⊎_elim, arith, set}
+use Rattle.std.proofs.Common.{◌≡◌, ◌==◌, ◌<◌, ◌≤◌, ℕ, Bool, true, false, List, refl, sym, ap, ◌∙◌, ⊎_elim, arith, set}
 use Rattle.std.proofs.lemmas.Bool.{cond-true, cond-false, cases_eq, cases_lt, both_ways}
 use Rattle.std.proofs.lemmas.List.{get_or-set_same, get_or-set_other, length-set}
 use Rattle.hv_cond.specs.declared.conditions.Cond.{Cond}
 use Rattle.hv_cond.specs.declared.nodes.Decision.{Decision}
-use Rattle.hv_cond.specs.Diagram.{top, holds_in, value_of}
+use Rattle.hv_cond.specs.Diagram.{holds_in, value_of}
 use Rattle.hv_cond.specs.Nodes.{IsBranch}
 use Rattle.hv_cond.specs.Paths.{IsWalked}
 use Rattle.hv_cond.proofs.Branches.{Cond-same, holds_in-terminal}
-
--- no step was made
-pub IsWalked-start : (n : ℕ) (ds : List Decision) (c : Cond) (values : List Bool) → c.index < top ds → 0 < c.index → length values ≡ n → ((i : ℕ) → value_of values i ≡ false) → IsWalked n ds c c values
-IsWalked-start n ds c values node possible len none =
-    record {
-      node = node;
-      possible = possible;
-      all_variables = len;
-      untouched = λ i l. none i;
-      meaning = λ w same. refl;
-      first = λ w h before. both_ways (value_of values before.place) (none before.place) before.right_true;
-    }
-
--- a step to the low half, which can hold
-pub IsWalked-low : (n : ℕ) (ds : List Decision) (c at : Cond) (values : List Bool) (d : Decision) → IsBranch n ds at d → IsWalked n ds c at values → 0 < d.low.index → IsWalked n ds c d.low values
-IsWalked-low n ds c at values d f walked possible =
-    let level_is = f.level_is in
-    let low_later = f.low_later in
-    record {
-      node = (let p = f.low_older in let q = walked.node in omega arith);
-      possible = possible;
-      all_variables = walked.all_variables;
-      untouched = λ i l. walked.untouched i (omega arith);
-      meaning = λ w same.
-          walked.meaning w (λ i l. same i (omega arith)) ∙ f.meaning w
-          ∙ cond-false (value_of w d.variable) _ _ (same d.variable low_later ∙ walked.untouched d.variable (omega arith));
-      first = walked.first;
-    }
 
 -- a step to the high half, since the low one cannot hold
 pub IsWalked-high : (n : ℕ) (ds : List Decision) (c at : Cond) (values : List Bool) (d : Decision) → IsBranch n ds at d → IsWalked n ds c at values → d.low.index ≡ 0 → IsWalked n ds c d.high (set values d.variable true)

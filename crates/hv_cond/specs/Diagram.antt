@@ -1,4 +1,5 @@
 -- What conditions mean. A store is seen as a diagram: how many variables there are, and its branches.
+-- Nothing here makes a branch: how conditions are combined, and that a diagram is reduced and in order, is no part of a meaning.
 use Rattle.std.specs.Prelude.{◌≡◌, ◌≢◌, ◌==◌, ◌+◌, ◌<◌, ◌≤◌, ℕ, Bool, true, false, ◌||◌, if◌then◌else◌, List, [], ◌∷◌, length, count_by}
 use Rattle.std.specs.List.{slice_index_or, range_with_len}
 use Rattle.hv_cond.specs.declared.conditions.Cond.{Cond}

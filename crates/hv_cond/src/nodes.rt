@@ -6,6 +6,7 @@ ghost use Rattle.hv_cond.specs.Nodes.{choice, level, newest_first, place_of, Ext
 use crate::conditions::{Cond, Node};
 use std::alloc::{AllocError, Global};
 use std::collections::HashMap;
+use std::mem::size_of;
 
 /// A branch: `high` where the variable is true, and `low` where it is not.
 #[derive(Clone, Copy, PartialEq, Eq, Hash, Debug)]
@@ -14,6 +15,9 @@ pub(crate) struct Decision {
     pub(crate) low: Cond,
     pub(crate) high: Cond,
 }
+
+// A table of millions of branches stays small.
+const _: () = prove!(size_of::<Decision>() == 12);
 
 /// The branches in the order in which they came, with the place of each.
 #[derive(Drop)]
