@@ -26,6 +26,14 @@ Keeps-trans e f =
 pub IsNever-kept : {old new : Diagram} → Keeps old new → (c : Cond) → IsNode old c → IsNever old c → IsNever new c
 IsNever-kept e c l never = λ values len. e.meaning c l values ∙ never values (len ∙ e.variables)
 
+-- disjoint conditions stay so
+pub AreDisjoint-kept : {old new : Diagram} → Keeps old new → (a b : Cond) → IsNode old a → IsNode old b → AreDisjoint old a b → AreDisjoint new a b
+AreDisjoint-kept e a b first second disjoint = λ values len holds_a. e.meaning b second values ∙ disjoint values (len ∙ e.variables) (sym (e.meaning a first values) ∙ holds_a)
+
+-- an implication stays one
+pub Implies-kept : {old new : Diagram} → Keeps old new → (a b : Cond) → IsNode old a → IsNode old b → Implies old a b → Implies new a b
+Implies-kept e a b first second implies = λ values len holds_a. e.meaning b second values ∙ implies values (len ∙ e.variables) (sym (e.meaning a first values) ∙ holds_a)
+
 -- two conditions are disjoint where their conjunction never holds
 pub AreDisjoint-from_conjunction : (d : Diagram) (a b both : Cond) → ((values : List Bool) → holds d both values ≡ (holds d a values && holds d b values)) → IsNever d both → AreDisjoint d a b
 AreDisjoint-from_conjunction d a b both meaning never = λ values len first. sym (ap (λ (x : Bool). x && holds d b values) first) ∙ sym (meaning values) ∙ never values len
