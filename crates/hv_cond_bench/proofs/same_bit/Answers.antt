@@ -1,0 +1,17 @@
+use Rattle.hv_cond.specs.Laws.{Keeps-trans}
+use Rattle.hv_cond_bench.proofs.same_bit.Goals as goal
+
+pub returns-in_err-b-clause-keeps : goal.returns-in_err-b-clause-keeps
+returns-in_err-b-clause-keeps c = Keeps-trans c.var.ensures.keeps c.var-2.ensures.keeps
+
+pub returns-in_err-both-clause-keeps : goal.returns-in_err-both-clause-keeps
+returns-in_err-both-clause-keeps c = Keeps-trans (Keeps-trans c.var.ensures.keeps c.var-2.ensures.keeps) c.and.ensures.keeps
+
+pub returns-in_err-either-clause-keeps : goal.returns-in_err-either-clause-keeps
+returns-in_err-either-clause-keeps c = Keeps-trans (Keeps-trans (Keeps-trans c.var.ensures.keeps c.var-2.ensures.keeps) c.and.ensures.keeps) c.or.ensures.keeps
+
+pub returns-in_err-neither-clause-keeps : goal.returns-in_err-neither-clause-keeps
+returns-in_err-neither-clause-keeps c = Keeps-trans (Keeps-trans (Keeps-trans (Keeps-trans c.var.ensures.keeps c.var-2.ensures.keeps) c.and.ensures.keeps) c.or.ensures.keeps) c.not.ensures.keeps
+
+pub returns-clause-keeps : goal.returns-clause-keeps
+returns-clause-keeps c = Keeps-trans (Keeps-trans (Keeps-trans (Keeps-trans (Keeps-trans c.var.ensures.keeps c.var-2.ensures.keeps) c.and.ensures.keeps) c.or.ensures.keeps) c.not.ensures.keeps) c.or-2.ensures.keeps
