@@ -1,29 +1,29 @@
 -- What each status means, from the way in which a call ended.
-use Rattle.std.proofs.Common.{◌≡◌, ◌≢◌, ℕ, ◌≤◌, List, [], ◌++◌, Bool, Option, Some, None, IsTrue, ◌⊎◌, inl, inr, refl, sym, ◌∙◌, ap, arith, length, append-nil, subst, ◌<◌, ◌+◌}
+use Rattle.hv_plain.specs.Source.{Line, IsSmallSource}
+use Rattle.std.proofs.Common.{◌≡◌, ℕ, List, [], ◌++◌, Option, Some, None, IsTrue, ◌⊎◌, inl, inr, refl, sym, ◌∙◌, ap, arith, length, append-nil, subst, ◌<◌}
 use Rattle.std.specs.Option.{option_map}
-use Rattle.hv_outside.specs.Count.{Rose}
 use Rattle.hv_outside.specs.Sink.{Adds, AddsFront}
 use Rattle.hv_plain.specs.declared.model.ModelFault.{ModelFault}
+use Rattle.hv_plain.specs.declared.model.ModelKind.{ModelKind}
 use Rattle.hv_plain.specs.ModelFile.{ModelReading, model_of, options, fault}
-use Rattle.hv_plain.specs.Source.{Line, IsSmallSource}
 use Rattle.hv_encode.specs.declared.command.Role.{Role}
 use Rattle.hv_encode.specs.declared.command.Role.TheVariants.{Model, Main}
 use Rattle.hv_encode.specs.declared.answer.Answer.{Answer}
 use Rattle.hv_encode.specs.declared.answer.Answer.TheVariants.{Encoded, LeftOut, BadWords, CannotRead, NoFile, TooBig, BadModel}
-use Rattle.hv_encode.specs.Answer.{status_of, output_of, message_of, want_of_memory}
-use Rattle.hv_encode.specs.Due.{Reads, Command, command_of, name_of, IsFile, IsEncoded, IsDue, IsDueTo, IsDueFor}
-use Rattle.hv_encode.specs.Given.{Writes, IsWhole, IsUnwritten, IsStarved, IsGiven}
-use Rattle.hv_encode.specs.Ends.{Answers, Fails, Starves, Unread, Ends, answered, failed, starved, Headline, IsGood, Succeeds}
+use Rattle.hv_encode.specs.Answer.{status_of, want_of_memory}
+use Rattle.hv_encode.specs.Due.{Reads, Command, command_of, name_of, IsEncoded, IsDue, IsDueTo, IsDueFor, IsInput, IsBadModel, IsFile}
+use Rattle.hv_encode.specs.Given.{Writes, IsGiven}
+use Rattle.hv_encode.specs.Ends.{Answers, Fails, Starves, Unread, Ends, answered, failed, starved, Headline, AreRead, IsUnusable, IsGood, IsOrFails, Succeeds}
 
 module _ (words : List (List ℕ)) (reads : Reads) (w : Writes) where
   pub Ends-given : (status : ℕ) (answer : Answer) → IsDue reads words answer → IsGiven w status answer → Ends words reads w status
   Ends-given status answer due given = elim given [
-      | inl whole ↦ answered answer (record { due = due; whole = whole })
-      | inr other ↦ elim other [
-          | inl unwritten ↦ failed (record { answer = answer; due = due; unwritten = unwritten })
-          | inr starves ↦ starved (inl (answer, due, starves))
-        ]
+    | inl whole ↦ answered answer (record { due = due; whole = whole })
+    | inr other ↦ elim other [
+      | inl unwritten ↦ failed (record { answer = answer; due = due; unwritten = unwritten })
+      | inr starves ↦ starved (inl (answer, due, starves))
     ]
+  ]
 
   status_starved : (status : ℕ) → Starves words reads w status → status ≡ 5
   status_starved status (inl s) = s.2.status_is
@@ -152,27 +152,27 @@ module _ (words : List (List ℕ)) (reads : Reads) (w : Writes) where
 
   pub Headline-of : (status : ℕ) → Ends words reads w status → status ≡ 0 → IsTrue reads.told → Headline words reads.held w.out_before w.out_now
   Headline-of status ends zero told =
-    let found = encoded-of status ends zero in
-    let text : List ℕ = found.0 in
-    let at = encoded_command (command_of words) text found.1.due in
-    let e = at.2 in
-    record {
-      command = at.0;
-      words_are = at.1;
-      model_file = e.input.bytes;
-      model_held = e.input.model.held told;
-      source = e.source;
-      source_held = e.input.main.held told;
-      names = e.names;
-      model_read = e.input.accepted;
-      body = e.body;
-      source_read = e.small;
-      text = text;
-      text_written = text_behind w.out_before w.out_now text found.1.whole.output;
-      product = e.encodes.product;
-      product_read = e.encodes.reads;
-      agrees = e.encodes.runs.agrees;
-    }
+      let found = encoded-of status ends zero in
+      let text : List ℕ = found.0 in
+      let at = encoded_command (command_of words) text found.1.due in
+      let e = at.2 in
+      record {
+        command = at.0;
+        words_are = at.1;
+        model_file = e.input.bytes;
+        model_held = e.input.model.held told;
+        source = e.source;
+        source_held = e.input.main.held told;
+        names = e.names;
+        model_read = e.input.accepted;
+        body = e.body;
+        source_read = e.small;
+        text = text;
+        text_written = text_behind w.out_before w.out_now text found.1.whole.output;
+        product = e.encodes.product;
+        product_read = e.encodes.reads;
+        agrees = e.encodes.runs.agrees;
+      }
 
   some_same : {A : Type 0} (o : Option A) (x y : A) → o ≡ Some x → o ≡ Some y → x ≡ y
   some_same o x y p q = cc
@@ -180,40 +180,134 @@ module _ (words : List (List ℕ)) (reads : Reads) (w : Writes) where
   options_same : (r : ModelReading) (x y : List (List ℕ)) → r ≡ options x → r ≡ options y → x ≡ y
   options_same r x y p q = cc
 
-  present : (good : IsGood words reads w) (role : Role) → reads.held (name_of good.command role) ≡ None → ⊥
-  present good Model none = let held = good.model_held in cc
-  present good Main none = let held = good.source_held in cc
+  present : (command : Command) (model_file source : List ℕ) (read : AreRead reads command model_file source) (role : Role) → reads.held (name_of command role) ≡ None → ⊥
+  present command model_file source read Model none = let held = read.model_held in cc
+  present command model_file source read Main none = let held = read.source_held in cc
 
-  small : (good : IsGood words reads w) (role : Role) (bytes : List ℕ) → reads.held (name_of good.command role) ≡ Some bytes → 16777216 < length bytes → ⊥
-  small good Model bytes held beyond = let same = some_same _ bytes good.model_file held good.model_held in omega (arith, ap length same, good.model_small)
-  small good Main bytes held beyond = let same = some_same _ bytes good.source held good.source_held in omega (arith, ap length same, good.source_small)
+  small : (command : Command) (model_file source : List ℕ) (read : AreRead reads command model_file source) (role : Role) (bytes : List ℕ)
+      → reads.held (name_of command role) ≡ Some bytes → 16777216 < length bytes → ⊥
+  small command model_file source read Model bytes held beyond =
+      let same = some_same _ bytes model_file held read.model_held in omega (arith, ap length same, read.model_small)
+  small command model_file source read Main bytes held beyond =
+      let same = some_same _ bytes source held read.source_held in omega (arith, ap length same, read.source_small)
+
+  -- files that can be read are found, so no answer that blames them is due
+  blames : (command : Command) (model_file source : List ℕ) (read : AreRead reads command model_file source) (answer : Answer) → status_of answer ≡ 3 → IsDueTo reads command answer → ⊥
+  blames command model_file source read (Encoded text) e due = omega arith
+  blames command model_file source read (LeftOut file) e due = omega arith
+  blames command model_file source read BadWords e due = due
+  blames command model_file source read (CannotRead name) e due = read.no_read_fault due.rose
+  blames command model_file source read (NoFile name) e due =
+      present command model_file source read due.role (ap reads.held (sym due.asked) ∙ due.held read.told)
+  blames command model_file source read (TooBig name size total) e due =
+      let found = due.held read.told in
+      small command model_file source read due.role found.0 (ap reads.held (sym due.asked) ∙ found.1) (omega (arith, due.beyond, found.2))
+  blames command model_file source read (BadModel found) e due = omega arith
+
+  -- the files of the input are those that are held
+  same_input : (command : Command) (model_file source : List ℕ) (read : AreRead reads command model_file source) (names : List (List ℕ)) (other : List ℕ)
+      → IsInput reads command names other → (model_of model_file ≡ options names) × (other ≡ source)
+  same_input command model_file source read names other input =
+      let same_file = some_same (reads.held command.model) input.bytes model_file (input.model.held read.told) read.model_held in
+      (rw same_file at input.accepted, some_same (reads.held command.main) other source (input.main.held read.told) read.source_held)
+
+  same_model : (command : Command) (model_file source : List ℕ) (read : AreRead reads command model_file source) (line : ℕ) (kind : ModelKind)
+      → IsBadModel reads command line kind → model_of model_file ≡ fault line kind
+  same_model command model_file source read line kind due =
+      let same_file = some_same (reads.held command.model) due.bytes model_file (due.model.held read.told) read.model_held in
+      rw same_file at due.refused
+
+  not_both : (r : ModelReading) (names : List (List ℕ)) (line : ℕ) (kind : ModelKind) → r ≡ options names → r ≡ fault line kind → ⊥
+  not_both r names line kind p q = cc
 
   complete-at : (good : IsGood words reads w) (status : ℕ) (answer : Answer) → Answers words reads w status answer → IsDueTo reads good.command answer → Succeeds words reads w status
   complete-at good status (Encoded text) a due = inl (a.whole.status_is, (text, a))
   complete-at good status (LeftOut file) a due =
-    let same_file = some_same (reads.held good.command.model) due.input.bytes good.model_file (due.input.model.held good.told) good.model_held in
-    let same_source = some_same (reads.held good.command.main) due.source good.source (due.input.main.held good.told) good.source_held in
-    let same_names = options_same (model_of good.model_file) due.names good.names (rw same_file at due.input.accepted) good.model_read in
-    absurd (due.no_small_source good.body (rw (same_names, same_source) good.source_read))
+      let same = same_input good.command good.model_file good.source good.read due.names due.source due.input in
+      let same_names = options_same (model_of good.model_file) due.names good.names same.0 good.model_read in
+      absurd (due.no_small_source good.body (rw (same_names, same.1) good.source_read))
   complete-at good status BadWords a due = absurd due
-  complete-at good status (CannotRead name) a due = absurd (good.no_read_fault due.rose)
-  complete-at good status (NoFile name) a due = absurd (present good due.role (ap reads.held (sym due.asked) ∙ due.held good.told))
-  complete-at good status (TooBig name size total) a due =
-    let found = due.held good.told in
-    absurd (small good due.role found.0 (ap reads.held (sym due.asked) ∙ found.1) (omega (arith, due.beyond, found.2)))
+  complete-at good status (CannotRead name) a due = absurd (blames good.command good.model_file good.source good.read (CannotRead name) refl due)
+  complete-at good status (NoFile name) a due = absurd (blames good.command good.model_file good.source good.read (NoFile name) refl due)
+  complete-at good status (TooBig name size total) a due = absurd (blames good.command good.model_file good.source good.read (TooBig name size total) refl due)
   complete-at good status (BadModel found) a due =
-    let same_file = some_same (reads.held good.command.model) due.bytes good.model_file (due.read.held good.told) good.model_held in
-    let refused = rw same_file at due.refused in
-    let accepted = good.model_read in
-    cc
+      absurd (not_both _ good.names found.line found.kind good.model_read (same_model good.command good.model_file good.source good.read found.line found.kind due))
 
   pub complete-of : (status : ℕ) → Ends words reads w status → IsGood words reads w → Succeeds words reads w status
   complete-of status (answered answer a) good = complete-at good status answer a (due_to (command_of words) good.command answer good.words_are a.due)
   complete-of status (failed f) good = elim f.unwritten.cause [
-      | inl out ↦ absurd (good.no_output_fault out.0)
-      | inr err ↦ absurd (good.no_message_fault err.0)
-    ]
+    | inl out ↦ absurd (good.no_output_fault out.0)
+    | inr err ↦ absurd (good.no_message_fault err.0)
+  ]
   complete-of status (starved s) good = inr (status_starved status s)
+
+  -- where the answers that are due to a command have one status, the call ends with it, or 4 or 5
+  ends_with : (wanted status : ℕ) (command : Command) → command_of words ≡ Some command → ((answer : Answer) → IsDueTo reads command answer → status_of answer ≡ wanted)
+      → Ends words reads w status → IsOrFails wanted status
+  ends_with wanted status command is only (answered answer a) =
+      inl (a.whole.status_is ∙ only answer (due_to (command_of words) command answer is a.due))
+  ends_with wanted status command is only (failed f) = inr (inl f.unwritten.status_is)
+  ends_with wanted status command is only (starved s) = inr (inr (status_starved status s))
+
+  only_bad_model : (command : Command) (model_file source : List ℕ) → AreRead reads command model_file source → (line : ℕ) (kind : ModelKind) → model_of model_file ≡ fault line kind
+      → (answer : Answer) → IsDueTo reads command answer → status_of answer ≡ 7
+  only_bad_model command model_file source read line kind refused (Encoded text) due =
+      absurd (not_both _ due.names line kind (same_input command model_file source read due.names due.source due.input).0 refused)
+  only_bad_model command model_file source read line kind refused (LeftOut file) due =
+      absurd (not_both _ due.names line kind (same_input command model_file source read due.names due.source due.input).0 refused)
+  only_bad_model command model_file source read line kind refused BadWords due = absurd due
+  only_bad_model command model_file source read line kind refused (CannotRead name) due = absurd (blames command model_file source read (CannotRead name) refl due)
+  only_bad_model command model_file source read line kind refused (NoFile name) due = absurd (blames command model_file source read (NoFile name) refl due)
+  only_bad_model command model_file source read line kind refused (TooBig name size total) due = absurd (blames command model_file source read (TooBig name size total) refl due)
+  only_bad_model command model_file source read line kind refused (BadModel found) due = refl
+
+  pub bad_model_where-of : (status : ℕ) → Ends words reads w status → (command : Command) (model_file source : List ℕ) (line : ℕ) (kind : ModelKind)
+      → command_of words ≡ Some command → AreRead reads command model_file source → model_of model_file ≡ fault line kind → IsOrFails 7 status
+  bad_model_where-of status ends command model_file source line kind is read refused =
+      ends_with 7 status command is (only_bad_model command model_file source read line kind refused) ends
+
+  only_left_out : (command : Command) (model_file source : List ℕ) → AreRead reads command model_file source → (names : List (List ℕ)) → model_of model_file ≡ options names
+      → ((body : List Line) → IsSmallSource names source body → ⊥) → (answer : Answer) → IsDueTo reads command answer → status_of answer ≡ 1
+  only_left_out command model_file source read names accepted none (Encoded text) due =
+      let same = same_input command model_file source read due.names due.source due.input in
+      let same_names = options_same (model_of model_file) due.names names same.0 accepted in
+      absurd (none due.body (rw (same_names, same.1) at due.small))
+  only_left_out command model_file source read names accepted none (LeftOut file) due = refl
+  only_left_out command model_file source read names accepted none BadWords due = absurd due
+  only_left_out command model_file source read names accepted none (CannotRead name) due = absurd (blames command model_file source read (CannotRead name) refl due)
+  only_left_out command model_file source read names accepted none (NoFile name) due = absurd (blames command model_file source read (NoFile name) refl due)
+  only_left_out command model_file source read names accepted none (TooBig name size total) due = absurd (blames command model_file source read (TooBig name size total) refl due)
+  only_left_out command model_file source read names accepted none (BadModel found) due =
+      absurd (not_both _ names found.line found.kind accepted (same_model command model_file source read found.line found.kind due))
+
+  pub left_out_where-of : (status : ℕ) → Ends words reads w status → (command : Command) (model_file source : List ℕ) (names : List (List ℕ))
+      → command_of words ≡ Some command → AreRead reads command model_file source → model_of model_file ≡ options names
+      → ((body : List Line) → IsSmallSource names source body → ⊥) → IsOrFails 1 status
+  left_out_where-of status ends command model_file source names is read accepted none =
+      ends_with 1 status command is (only_left_out command model_file source read names accepted none) ends
+
+  -- a file that can't be used was not read
+  not_file : (command : Command) (role : Role) → IsUnusable reads command role → (bytes : List ℕ) → IsFile reads (name_of command role) bytes → ⊥
+  not_file command role bad bytes file = elim bad.unusable [
+    | inl none ↦ let held = file.held bad.told in cc
+    | inr big ↦ let same = some_same _ bytes big.0 (file.held bad.told) big.1 in omega (arith, ap length same, file.small, big.2)
+  ]
+
+  not_input : (command : Command) (role : Role) → IsUnusable reads command role → (model_file source : List ℕ) → IsFile reads command.model model_file → IsFile reads command.main source → ⊥
+  not_input command Model bad model_file source model main = not_file command Model bad model_file model
+  not_input command Main bad model_file source model main = not_file command Main bad source main
+
+  only_unread : (command : Command) (role : Role) → IsUnusable reads command role → (answer : Answer) → IsDueTo reads command answer → status_of answer ≡ 3
+  only_unread command role bad (Encoded text) due = absurd (not_input command role bad due.input.bytes due.source due.input.model due.input.main)
+  only_unread command role bad (LeftOut file) due = absurd (not_input command role bad due.input.bytes due.source due.input.model due.input.main)
+  only_unread command role bad BadWords due = absurd due
+  only_unread command role bad (CannotRead name) due = refl
+  only_unread command role bad (NoFile name) due = refl
+  only_unread command role bad (TooBig name size total) due = refl
+  only_unread command role bad (BadModel found) due = absurd (not_input command role bad due.bytes due.source due.model due.main)
+
+  pub unread_where-of : (status : ℕ) → Ends words reads w status → (command : Command) (role : Role) → command_of words ≡ Some command → IsUnusable reads command role → IsOrFails 3 status
+  unread_where-of status ends command role is bad = ends_with 3 status command is (only_unread command role bad) ends
 
 -- what is written before memory was wanting for the answer itself: nothing
 pub Adds-nothing : (before now : Option (List ℕ)) → now ≡ before → Adds before now []

@@ -1,5 +1,5 @@
 -- What the writing of a text leaves, whole or in part.
-use Rattle.std.proofs.Common.{◌≡◌, ℕ, List, Option, Result, Ok, Err, length, take, OnOk, OnErr, ◌⊎◌, inl, inr, refl}
+use Rattle.std.proofs.Common.{◌≡◌, ℕ, List, Option, Result, Ok, Err, length, OnOk, OnErr, inl, inr, refl}
 use Rattle.std.proofs.Math.Seq.{take-length}
 use Rattle.hv_outside.specs.Count.{Rose}
 use Rattle.hv_outside.specs.Sink.{Adds, AddsFront}

@@ -1,5 +1,5 @@
 -- The answers of the tool: each has a status, the bytes for its output, and a message.
-use Rattle.std.specs.Prelude.{ℕ, List, [], ◌∷◌, ◌++◌, codes, decimal}
+use Rattle.std.specs.Prelude.{ℕ, List, [], ◌++◌, codes, decimal}
 use Rattle.hv_plain.specs.ModelKind.{kind_number, kind_name}
 use Rattle.hv_encode.specs.declared.answer.Answer.{Answer}
 use Rattle.hv_encode.specs.declared.answer.Answer.TheVariants.{Encoded, LeftOut, BadWords, CannotRead, NoFile, TooBig, BadModel}

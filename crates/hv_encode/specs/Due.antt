@@ -1,5 +1,5 @@
 -- Which answer is due, by the words, the files, the model and the source.
-use Rattle.std.specs.Prelude.{ℕ, ◌≡◌, ◌<◌, ◌≤◌, ◌⊎◌, Bool, cond, List, [], ◌∷◌, length, Option, Some, None, codes, IsTrue}
+use Rattle.std.specs.Prelude.{ℕ, ◌≡◌, ◌<◌, ◌≤◌, Bool, cond, List, [], ◌∷◌, length, Option, Some, None, codes, IsTrue}
 use Rattle.std.specs.Str.{bytes_eq}
 use Rattle.hv_outside.specs.Count.{Rose}
 use Rattle.hv_plain.specs.ModelFile.{model_of, options, fault}
@@ -24,14 +24,14 @@ pub record Reads : Type 0 where
 -- `reads told held faults absences failed_name before now`, with the meanings that a type of files has
 abbrev pub reads : {F : Type 0} → (F → Bool) → (F → List ℕ → Option (List ℕ)) → (F → ℕ) → (F → ℕ) → (F → Option (List ℕ)) → F → F → Reads
 reads told held faults absences failed_name before now = record {
-    told = told before;
-    held = held before;
-    faults_before = faults before;
-    faults_now = faults now;
-    absences_before = absences before;
-    absences_now = absences now;
-    failed_name = failed_name now;
-  }
+  told = told before;
+  held = held before;
+  faults_before = faults before;
+  faults_now = faults now;
+  absences_before = absences before;
+  absences_now = absences now;
+  failed_name = failed_name now;
+}
 
 -- the names of the model file and of the main file
 pub record Command : Type 0 where
@@ -81,9 +81,12 @@ pub record IsUnreadable (reads : Reads) (command : Command) (name : List ℕ) : 
   pub rose : Rose reads.faults_before reads.faults_now
   pub latest : reads.failed_name ≡ Some name
 
+-- both files were read, and the model file is refused
 pub record IsBadModel (reads : Reads) (command : Command) (line : ℕ) (kind : ModelKind) : Type 0 where
   pub bytes : List ℕ
-  pub read : IsFile reads command.model bytes
+  pub model : IsFile reads command.model bytes
+  pub source : List ℕ
+  pub main : IsFile reads command.main source
   pub refused : model_of bytes ≡ fault line kind
 
 -- the model file gives these options, and the main file these bytes

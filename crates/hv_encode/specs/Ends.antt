@@ -1,17 +1,16 @@
 -- How a call of the program ends, status by status.
-use Rattle.std.specs.Prelude.{ℕ, ◌≡◌, ◌≢◌, ◌≤◌, ◌⊎◌, Bool, List, [], ◌++◌, length, Option, Some, None, IsTrue}
+use Rattle.std.specs.Prelude.{ℕ, ◌≡◌, ◌≢◌, ◌≤◌, ◌<◌, ◌⊎◌, Bool, List, [], ◌++◌, length, Option, Some, IsTrue, None}
 use Rattle.hv_outside.specs.Count.{Rose}
-use Rattle.hv_outside.specs.Sink.{AddsFront}
-use Rattle.hv_plain.specs.declared.model.ModelFault.{ModelFault}
 use Rattle.hv_plain.specs.Config.{IsValid}
 use Rattle.hv_plain.specs.ModelFile.{model_of, options}
 use Rattle.hv_plain.specs.Source.{Line, IsSmallSource}
 use Rattle.hv_plain.specs.Program.{Program, IsProgramText}
 use Rattle.hv_plain.specs.Run.{IsVariant, run, start, no_start, undefined, variables_of}
 use Rattle.hv_encode.specs.declared.answer.Answer.{Answer}
-use Rattle.hv_encode.specs.declared.answer.Answer.TheVariants.{Encoded, LeftOut, BadWords, CannotRead, NoFile, TooBig, BadModel}
+use Rattle.hv_encode.specs.declared.answer.Answer.TheVariants.{Encoded, CannotRead, NoFile, TooBig}
 use Rattle.hv_encode.specs.Answer.{output_of, message_of}
-use Rattle.hv_encode.specs.Due.{Reads, Command, command_of, IsDue}
+use Rattle.hv_encode.specs.declared.command.Role.{Role}
+use Rattle.hv_encode.specs.Due.{Reads, Command, command_of, name_of, IsDue}
 use Rattle.hv_encode.specs.Given.{Writes, IsWhole, IsUnwritten, IsStarved}
 
 -- the answer was due, and was given whole
@@ -65,25 +64,36 @@ pub record Headline (words : List (List ℕ)) (held : List ℕ → Option (List 
   pub product : Program
   pub product_read : IsProgramText (variables_of names) text product
   pub agrees : (values : List Bool) → IsValid names values → (variant : Program) → IsVariant names source values variant → (input : List ℕ) (steps : ℕ)
-    → (run variant no_start input steps).ending ≢ undefined
-    → run product (start names values) input steps ≡ run variant no_start input steps
+      → (run variant no_start input steps).ending ≢ undefined
+      → run product (start names values) input steps ≡ run variant no_start input steps
+
+-- the files tell that they hold these two within the limit, and no count of their faults rose
+pub record AreRead (reads : Reads) (command : Command) (model_file source : List ℕ) : Type 0 where
+  pub told : IsTrue reads.told
+  pub model_held : reads.held command.model ≡ Some model_file
+  pub model_small : length model_file ≤ 16777216
+  pub source_held : reads.held command.main ≡ Some source
+  pub source_small : length source ≤ 16777216
+  pub no_read_fault : Rose reads.faults_before reads.faults_now → ⊥
+
+-- a file of the command isn't there, or is beyond the limit, and no count of faults rose
+pub record IsUnusable (reads : Reads) (command : Command) (role : Role) : Type 0 where
+  pub told : IsTrue reads.told
+  pub unusable : (reads.held (name_of command role) ≡ None)
+      ⊎ ((bytes : List ℕ) × (reads.held (name_of command role) ≡ Some bytes) × (16777216 < length bytes))
+  pub no_read_fault : Rose reads.faults_before reads.faults_now → ⊥
 
 -- what completeness asks of the words, the files and the source; and that no count of faults rose
 pub record IsGood (words : List (List ℕ)) (reads : Reads) (w : Writes) : Type 0 where
   pub command : Command
   pub words_are : command_of words ≡ Some command
-  pub told : IsTrue reads.told
   pub model_file : List ℕ
-  pub model_held : reads.held command.model ≡ Some model_file
-  pub model_small : length model_file ≤ 16777216
   pub source : List ℕ
-  pub source_held : reads.held command.main ≡ Some source
-  pub source_small : length source ≤ 16777216
+  pub read : AreRead reads command model_file source
   pub names : List (List ℕ)
   pub model_read : model_of model_file ≡ options names
   pub body : List Line
   pub source_read : IsSmallSource names source body
-  pub no_read_fault : Rose reads.faults_before reads.faults_now → ⊥
   pub no_output_fault : Rose w.out_faults_before w.out_faults_now → ⊥
   pub no_message_fault : Rose w.err_faults_before w.err_faults_now → ⊥
 
@@ -91,3 +101,7 @@ pub record IsGood (words : List (List ℕ)) (reads : Reads) (w : Writes) : Type 
 abbrev pub Succeeds : List (List ℕ) → Reads → Writes → ℕ → Type 0
 Succeeds words reads w status =
     ((status ≡ 0) × ((text : List ℕ) × Answers words reads w status (Encoded text))) ⊎ (status ≡ 5)
+
+-- this status, or 4 or 5 in its place
+abbrev pub IsOrFails : ℕ → ℕ → Type 0
+IsOrFails wanted status = (status ≡ wanted) ⊎ ((status ≡ 4) ⊎ (status ≡ 5))

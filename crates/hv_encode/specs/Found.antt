@@ -1,5 +1,5 @@
 -- What the reading of one file of a command finds.
-use Rattle.std.specs.Prelude.{ℕ, ◌≡◌, ◌≤◌, List, Result, Ok, Err}
+use Rattle.std.specs.Prelude.{ℕ, ◌≡◌, List}
 use Rattle.hv_encode.specs.declared.answer.Answer.{Answer}
 use Rattle.hv_encode.specs.declared.answer.Answer.TheVariants.{Encoded, LeftOut, BadWords, CannotRead, NoFile, TooBig, BadModel}
 use Rattle.hv_encode.specs.declared.command.Found.{Found}

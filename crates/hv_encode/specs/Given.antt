@@ -1,5 +1,5 @@
 -- How an answer is given: by a status and by what two sinks got.
-use Rattle.std.specs.Prelude.{ℕ, ◌≡◌, ◌⊎◌, List, [], Option}
+use Rattle.std.specs.Prelude.{ℕ, ◌≡◌, ◌⊎◌, List, Option}
 use Rattle.hv_outside.specs.Count.{Rose}
 use Rattle.hv_outside.specs.Sink.{Adds, AddsFront}
 use Rattle.hv_encode.specs.declared.answer.Answer.{Answer}
@@ -20,15 +20,15 @@ pub record Writes : Type 0 where
 -- the meanings that their types have
 abbrev pub writes : {O E : Type 0} → (O → Option (List ℕ)) → (O → ℕ) → O → O → (E → Option (List ℕ)) → (E → ℕ) → E → E → Writes
 writes out_written out_faults out_old out_new err_written err_faults err_old err_new = record {
-    out_before = out_written out_old;
-    out_now = out_written out_new;
-    out_faults_before = out_faults out_old;
-    out_faults_now = out_faults out_new;
-    err_before = err_written err_old;
-    err_now = err_written err_new;
-    err_faults_before = err_faults err_old;
-    err_faults_now = err_faults err_new;
-  }
+  out_before = out_written out_old;
+  out_now = out_written out_new;
+  out_faults_before = out_faults out_old;
+  out_faults_now = out_faults out_new;
+  err_before = err_written err_old;
+  err_now = err_written err_new;
+  err_faults_before = err_faults err_old;
+  err_faults_now = err_faults err_new;
+}
 
 -- the answer was given whole: its status, its output and its message
 pub record IsWhole (w : Writes) (status : ℕ) (answer : Answer) : Type 0 where
@@ -42,7 +42,7 @@ pub record IsUnwritten (w : Writes) (status : ℕ) (answer : Answer) : Type 0 wh
   pub status_is : status ≡ 4
   pub output : AddsFront w.out_before w.out_now (output_of answer)
   pub cause : (Rose w.out_faults_before w.out_faults_now × Adds w.err_before w.err_now cannot_write)
-    ⊎ (Rose w.err_faults_before w.err_faults_now
+      ⊎ (Rose w.err_faults_before w.err_faults_now
       × (AddsFront w.err_before w.err_now cannot_write ⊎ AddsFront w.err_before w.err_now (message_of answer)))
 
 -- memory was wanting: status 5, with a front of the output and of one message
@@ -50,7 +50,7 @@ pub record IsStarved (w : Writes) (status : ℕ) (output message : List ℕ) : T
   pub status_is : status ≡ 5
   pub output_front : AddsFront w.out_before w.out_now output
   pub message_front : AddsFront w.err_before w.err_now want_of_memory ⊎ (AddsFront w.err_before w.err_now message
-    ⊎ (Rose w.out_faults_before w.out_faults_now × AddsFront w.err_before w.err_now cannot_write))
+      ⊎ (Rose w.out_faults_before w.out_faults_now × AddsFront w.err_before w.err_now cannot_write))
 
 -- an answer was given, or 4 or 5 stands in its place
 abbrev pub IsGiven : Writes → ℕ → Answer → Type 0

@@ -1,5 +1,7 @@
 pub mod Answer
 pub mod Due
-pub mod Given
-pub mod Found
 pub mod Ends
+pub mod Found
+pub mod Given
+pub mod Lift
+pub mod Lines

@@ -34,7 +34,12 @@ pub fn answer<F: Files>(alloc: Global, words: &[String], files: &mut F) -> Resul
         (reads F.told F.held F.faults F.absences F.failed_name files.old files.new) }
 {
     match words {
-        [word, model, main] if word.as_str() == "encode" => encode(alloc, files, model.as_str(), main.as_str()),
+        [word, model, main] if word.as_str() == "encode" => encode(
+            alloc,
+            files,
+            model.as_str(),
+            main.as_str(),
+        ),
         _ => Ok(Answer::BadWords),
     }
 }
@@ -57,7 +62,12 @@ fn encode<F: Files>(alloc: Global, files: &mut F, model: &str, main: &str) -> Re
 }
 
 /// Reads the file of this name whole.
-fn read_file<F: Files>(alloc: Global, files: &mut F, name: &str, role: Role) -> Result<Found, Memory>
+fn read_file<F: Files>(
+    alloc: Global,
+    files: &mut F,
+    name: &str,
+    role: Role,
+) -> Result<Found, Memory>
     ensures found { (command : Command) → name.now ≡ name_of command role → IfOk result (IsFound
         (reads F.told F.held F.faults F.absences F.failed_name files.old files.new) command role) }
     ensures faults_never_fall { F.faults files.old ≤ F.faults files.new }
@@ -99,7 +109,12 @@ fn copy(alloc: Global, name: &str) -> Result<Text, Memory>
 }
 
 /// The answer for the bytes of a model file and of a main file of this name.
-fn metaproduct(alloc: Global, model_file: &[u8], source: &[u8], main: &str) -> Result<Answer, Memory>
+fn metaproduct(
+    alloc: Global,
+    model_file: &[u8],
+    source: &[u8],
+    main: &str,
+) -> Result<Answer, Memory>
     ensures { IfOk result (IsMadeOf model_file.now source.now main.now) }
 {
     let model = match read_model(alloc, model_file) {

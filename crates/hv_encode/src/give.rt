@@ -5,8 +5,8 @@ ghost use Rattle.hv_encode.specs.Answer.{cannot_write as cannot_write_message, w
 ghost use Rattle.hv_encode.specs.Given.{IsGiven, writes};
 
 use crate::Answer;
-use hv_outside::{Sink, SinkFault, write_all};
 use hv_base::Memory;
+use hv_outside::{Sink, SinkFault, write_all};
 use std::alloc::Global;
 
 /// The status where a write failed.
@@ -38,7 +38,7 @@ pub fn give<O: Sink, E: Sink>(alloc: Global, answer: &Answer, out: &mut O, err: 
 /// Says that a write to the output failed. Where that can't be written either, nothing follows.
 fn cannot_write<E: Sink>(err: &mut E) -> u8
     ensures { (result ≡ 4 × (Adds (E.written err.old) (E.written err.new) cannot_write_message
-            ⊎ (Rose (E.faults err.old) (E.faults err.new) × AddsFront (E.written err.old) (E.written err.new) cannot_write_message)))
+        ⊎ (Rose (E.faults err.old) (E.faults err.new) × AddsFront (E.written err.old) (E.written err.new) cannot_write_message)))
         ⊎ (result ≡ 5 × AddsFront (E.written err.old) (E.written err.new) cannot_write_message) }
 {
     match write_all(err, b"hercules: cannot write\n") {

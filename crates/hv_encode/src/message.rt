@@ -38,11 +38,14 @@ impl Answer {
     {
         match self {
             Answer::Encoded(_) => Ok(Text::new(alloc)),
-            Answer::LeftOut { file } => joined(alloc, &[
-                b"hercules: fails config= file=".as_slice(),
-                file.as_slice(),
-                b" line=1 offset=0 via=- why=14 LeftOut\n".as_slice(),
-            ]),
+            Answer::LeftOut { file } => joined(
+                alloc,
+                &[
+                    b"hercules: fails config= file=".as_slice(),
+                    file.as_slice(),
+                    b" line=1 offset=0 via=- why=14 LeftOut\n".as_slice(),
+                ],
+            ),
             Answer::BadWords => joined(alloc, &[b"hercules: bad words\n".as_slice()]),
             Answer::CannotRead { name } => about(alloc, b"hercules: cannot read ", name),
             Answer::NoFile { name } => about(alloc, b"hercules: no file ", name),
@@ -74,15 +77,18 @@ fn too_big(alloc: Global, name: &Text, size: u64, total: u64) -> Result<Text, Me
 {
     let mut size_digits = Buffer::new();
     let mut total_digits = Buffer::new();
-    joined(alloc, &[
-        b"hercules: too big ".as_slice(),
-        name.as_slice(),
-        b" ".as_slice(),
-        size_digits.format(size).as_bytes(),
-        b" ".as_slice(),
-        total_digits.format(total).as_bytes(),
-        b"\n".as_slice(),
-    ])
+    joined(
+        alloc,
+        &[
+            b"hercules: too big ".as_slice(),
+            name.as_slice(),
+            b" ".as_slice(),
+            size_digits.format(size).as_bytes(),
+            b" ".as_slice(),
+            total_digits.format(total).as_bytes(),
+            b"\n".as_slice(),
+        ],
+    )
 }
 
 fn bad_model(alloc: Global, fault: &ModelFault) -> Result<Text, Memory>
@@ -90,13 +96,16 @@ fn bad_model(alloc: Global, fault: &ModelFault) -> Result<Text, Memory>
 {
     let mut line_digits = Buffer::new();
     let mut kind_digits = Buffer::new();
-    joined(alloc, &[
-        b"hercules: model line=".as_slice(),
-        line_digits.format(fault.line).as_bytes(),
-        b" kind=".as_slice(),
-        kind_digits.format(fault.kind.number()).as_bytes(),
-        b" ".as_slice(),
-        fault.kind.name().as_bytes(),
-        b"\n".as_slice(),
-    ])
+    joined(
+        alloc,
+        &[
+            b"hercules: model line=".as_slice(),
+            line_digits.format(fault.line).as_bytes(),
+            b" kind=".as_slice(),
+            kind_digits.format(fault.kind.number()).as_bytes(),
+            b" ".as_slice(),
+            fault.kind.name().as_bytes(),
+            b"\n".as_slice(),
+        ],
+    )
 }

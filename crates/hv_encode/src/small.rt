@@ -2,6 +2,8 @@ ghost use Rattle.std.specs.Prelude.{List, IfOk, IfSome, IfNone};
 ghost use Rattle.hv_plain.specs.Run.{Encodes};
 ghost use Rattle.hv_plain.specs.Source.{Line, IsSmallSource};
 
+use crate::print::print_product;
+use crate::source::lines_of;
 use hv_base::{Memory, Text};
 use hv_plain::Model;
 use std::alloc::Global;
@@ -14,8 +16,9 @@ pub fn encode_small(alloc: Global, model: &Model, source: &[u8]) -> Result<Optio
     ensures refused { IfOk result (λ answer. IfNone answer
         ((body : List Line) → ¬ (IsSmallSource model.now source.now body))) }
 {
-    let _ = alloc;
-    let _ = model;
-    let _ = source;
-    Err(Memory)
+    let Some(lines) = lines_of(alloc, model, source)? else {
+        return Ok(None);
+    };
+    let text = print_product(alloc, model, lines.as_slice())?;
+    Ok(Some(text))
 }

@@ -1,10 +1,14 @@
-ghost use Rattle.std.specs.Prelude.{◌≡◌, ◌⊎◌, List, ℕ, Some, None, IsTrue, map};
+ghost use Rattle.std.specs.Prelude.{◌≡◌, List, ℕ, Some, None, IsTrue, map};
 ghost use Rattle.std.specs.String.{string_bytes};
 ghost use Rattle.hv_plain.specs.declared.model.ModelFault.{ModelFault};
+ghost use Rattle.hv_plain.specs.declared.model.ModelKind.{ModelKind};
+ghost use Rattle.hv_plain.specs.ModelFile.{model_of, options, fault};
+ghost use Rattle.hv_plain.specs.Source.{Line, IsSmallSource};
 ghost use Rattle.hv_encode.specs.declared.answer.Answer.{Answer};
-ghost use Rattle.hv_encode.specs.Due.{IsUntouched, command_of, reads};
+ghost use Rattle.hv_encode.specs.Due.{Command, IsUntouched, command_of, reads};
+ghost use Rattle.hv_encode.specs.declared.command.Role.{Role};
 ghost use Rattle.hv_encode.specs.Given.{writes};
-ghost use Rattle.hv_encode.specs.Ends.{Answers, Ends, Fails, Headline, IsGood, Starves, Succeeds, Unread};
+ghost use Rattle.hv_encode.specs.Ends.{Answers, AreRead, Ends, Fails, Headline, IsGood, IsOrFails, IsUnusable, Starves, Succeeds, Unread};
 
 use crate::command::answer;
 use crate::give::{give, starve};
@@ -55,12 +59,22 @@ pub fn hercules<F: Files, I: Source, O: Sink, E: Sink>(
         (writes O.written O.faults out.old out.new E.written E.faults err.old err.new) result }
 
     // Refused words ask for no file; nothing reads the input.
-    ensures refused_words { (command_of (map string_bytes words.now) ≡ None) → (result ≡ 2) ⊎ ((result ≡ 4) ⊎ (result ≡ 5)) }
+    ensures refused_words { (command_of (map string_bytes words.now) ≡ None) → IsOrFails 2 result }
     ensures untouched { (command_of (map string_bytes words.now) ≡ None) → IsUntouched
         (reads F.told F.held F.faults F.absences F.failed_name files.old files.new) }
     ensures input { input.new ≡ input.old }
 
-    // Where all is well, the metaproduct is written whole, or memory was wanting.
+    // Where files tell what they hold and none failed, the cause of a status brings it about.
+    ensures unread_where { (command : Command) (role : Role) → command_of (map string_bytes words.now) ≡ Some command
+        → IsUnusable (reads F.told F.held F.faults F.absences F.failed_name files.old files.new) command role → IsOrFails 3 result }
+    ensures bad_model_where { (command : Command) (model_file source : List ℕ) (line : ℕ) (kind : ModelKind)
+        → command_of (map string_bytes words.now) ≡ Some command
+        → AreRead (reads F.told F.held F.faults F.absences F.failed_name files.old files.new) command model_file source
+        → model_of model_file ≡ fault line kind → IsOrFails 7 result }
+    ensures left_out_where { (command : Command) (model_file source : List ℕ) (names : List (List ℕ))
+        → command_of (map string_bytes words.now) ≡ Some command
+        → AreRead (reads F.told F.held F.faults F.absences F.failed_name files.old files.new) command model_file source
+        → model_of model_file ≡ options names → ((body : List Line) → ¬ (IsSmallSource names source body)) → IsOrFails 1 result }
     ensures complete { IsGood (map string_bytes words.now)
         (reads F.told F.held F.faults F.absences F.failed_name files.old files.new)
         (writes O.written O.faults out.old out.new E.written E.faults err.old err.new) → Succeeds (map string_bytes words.now)

@@ -22,7 +22,9 @@ pub enum Got {
 /// Why a read of a file gave nothing.
 #[derive(Clone, Copy, Debug, PartialEq, Eq)]
 pub enum FileFault {
+    /// The outside failed: the file may be there, and could not be read.
     Failed,
+    /// There was no memory for the bytes, or for what else the read needs.
     Memory,
 }
 

@@ -10,7 +10,7 @@ mod schedule;
 mod sink;
 mod source;
 mod std_files;
-mod std_io;
+mod std_streams;
 
 pub use files::{FileFault, Files, Got};
 pub use memory::{MemFiles, MemSink, MemSource};
@@ -18,7 +18,7 @@ pub use safe::{SafeFiles, SafeSink, SafeSource};
 pub use sink::{Sink, SinkFault, write_all};
 pub use source::{Failed, Source};
 pub use std_files::DirFiles;
-pub use std_io::{StdSink, StdSource};
+pub use std_streams::{StdSink, StdSource};
 
 #[cfg(test)]
 mod tests;

@@ -5,7 +5,9 @@ ghost use Rattle.hv_outside.specs.Sink.{Adds, AddsFront, taken};
 /// Why a write took nothing.
 #[derive(Clone, Copy, Debug, PartialEq, Eq)]
 pub enum SinkFault {
+    /// The outside failed.
     Failed,
+    /// There was no memory for what the write needs.
     Memory,
 }
 
@@ -26,7 +28,8 @@ pub trait Sink {
         ensures faults_never_fall { faults self.old ≤ faults self.new };
 }
 
-/// Writes all of `bytes`, in as many pieces as the sink asks for.
+/// Writes all of `bytes`, in as many pieces as the sink asks for. It stops at the first fault, which
+/// leaves a front of them written.
 pub fn write_all<S: Sink>(sink: &mut S, bytes: &[u8]) -> Result<(), SinkFault>
     ensures whole { OnOk result (Adds (S.written sink.old) (S.written sink.new) bytes.now) }
     ensures front { OnErr result (AddsFront (S.written sink.old) (S.written sink.new) bytes.now) }

@@ -5,7 +5,7 @@ ghost use Rattle.hv_outside.specs.Files.{IsWithinLimit};
 
 use crate::count::raised;
 use crate::files::{FILE_LIMIT, FileFault, Files, Got};
-use crate::std_io::read_once;
+use crate::std_streams::read_once;
 use hv_base::Text;
 use std::alloc::{AllocError, Global};
 use std::fs::{self, OpenFile};

@@ -3,7 +3,7 @@ use hv_base::{List, Text};
 use std::alloc::{AllocError, Global};
 use std::io::{self, ErrorKind, Read, Write};
 use std::test::Fail;
-use std::{env, fs};
+use std::{env, fs, process};
 
 /// Whether a read gave these bytes.
 fn gave(answer: &Result<Got, FileFault>, want: &[u8]) -> bool {
@@ -127,8 +127,10 @@ fn a_failed_write_leaves_a_front(rt: HostRuntime) -> Result<(), Fail> {
 fn real_files_are_read(rt: HostRuntime) -> Result<(), Fail> {
     let alloc = rt.alloc();
     let folder = env::temp_dir(&rt)?;
-    let small = folder.join(alloc, "hv_outside_small")?;
-    let large = folder.join(alloc, "hv_outside_large")?;
+    // Two runs of the tests at a time write different files.
+    let run = process::id(rt.process());
+    let small = folder.join(alloc, format!(in alloc; "hv_outside_{run}_small")?.as_str())?;
+    let large = folder.join(alloc, format!(in alloc; "hv_outside_{run}_large")?.as_str())?;
     fs::write(&rt, small.as_str(), b"int a;".as_slice())?;
     fs::create(&rt, large.as_str())?.set_len(16_777_217)?;
     let mut files = DirFiles::new(&rt);

@@ -1,9 +1,9 @@
 -- Lines and words, taken off the front of a text one by one.
-use Rattle.std.proofs.Common.{◌≡◌, ℕ, zero, suc, ◌+◌, ◌<◌, ◌≤◌, Bool, true, false, not, List, [], ◌∷◌, cond, refl, sym, ◌∙◌, ap, arith, length, take, drop, filter, get_or, drop-cons, add-one, ◌⊎◌, inl, inr}
-use Rattle.std.specs.List.{slice_split, onto_first, prefix_len, position_or_len}
+use Rattle.std.proofs.Common.{◌≡◌, ℕ, suc, ◌+◌, ◌<◌, ◌≤◌, true, false, not, List, [], ◌∷◌, cond, refl, sym, ◌∙◌, ap, arith, length, take, drop, filter, get_or, drop-cons, inl, inr}
+use Rattle.std.specs.List.{slice_split, prefix_len, position_or_len}
 use Rattle.std.proofs.lemmas.Bool.{not-false, cases_lt}
 use Rattle.std.proofs.lemmas.List.{take_all, length-take-le}
-use Rattle.std.proofs.lemmas.List.Sums.{prefix_len_stops, prefix_len-le-length}
+use Rattle.std.proofs.lemmas.List.Sums.{prefix_len_stops}
 use Rattle.hv_plain.specs.Bytes.{is_blank, is_newline, is_empty, words}
 use Rattle.hv_plain.specs.ModelFile.{counted_lines, without_return}
 use Rattle.hv_plain.proofs.ListLemmas.{slice_split_front, slice_split_whole, slice_split-some, drop-past}
@@ -60,16 +60,16 @@ words-front text some none =
     let positive : 0 < position_or_len is_blank text = word_len-some text some none in
     elim (cases_lt n (length text)) [
       | inl found ↦
-        let cut = slice_split_front is_blank text found in
-        let blank : is_blank (get_or text n 0) ≡ true = not-false _ (prefix_len_stops (λ x. not (is_blank x)) text 0 found) in
-        let next : suc n ≡ n + 1 = omega arith in
-        let others : words (drop n text) ≡ words (drop (n + 1) text) = ap words (drop-cons text n 0 found) ∙ (words-blank (get_or text n 0) (drop (suc n) text) blank ∙ ap (λ k. words (drop k text)) next) in
-        ap (filter (λ p. not (is_empty p))) cut
-        ∙ (filter-some (take n text) (slice_split is_blank (drop (n + 1) text)) (omega (arith, length-take-le n text (omega arith)))
-        ∙ ap (λ ws. take n text ∷ ws) (sym others))
+          let cut = slice_split_front is_blank text found in
+          let blank : is_blank (get_or text n 0) ≡ true = not-false _ (prefix_len_stops (λ x. not (is_blank x)) text 0 found) in
+          let next : suc n ≡ n + 1 = omega arith in
+          let others : words (drop n text) ≡ words (drop (n + 1) text) = ap words (drop-cons text n 0 found) ∙ (words-blank (get_or text n 0) (drop (suc n) text) blank ∙ ap (λ k. words (drop k text)) next) in
+          ap (filter (λ p. not (is_empty p))) cut
+          ∙ (filter-some (take n text) (slice_split is_blank (drop (n + 1) text)) (omega (arith, length-take-le n text (omega arith)))
+          ∙ ap (λ ws. take n text ∷ ws) (sym others))
       | inr past ↦
-        ap (filter (λ p. not (is_empty p))) (slice_split_whole is_blank text past)
-        ∙ (filter-some text [] some ∙ rw (take_all n text past, drop-past n text past) refl)
+          ap (filter (λ p. not (is_empty p))) (slice_split_whole is_blank text past)
+          ∙ (filter-some text [] some ∙ rw (take_all n text past, drop-past n text past) refl)
     ]
 
 prefix_len-rest : (text : List ℕ) → prefix_len is_blank (drop (prefix_len is_blank text) text) ≡ 0

@@ -1,14 +1,14 @@
 -- The definitions at small examples, worked out by hand.
-use Rattle.std.specs.Prelude.{ℕ, ◌≡◌, Bool, true, false, List, [], ◌∷◌, ◌++◌, map, codes, refl}
+use Rattle.std.specs.Prelude.{ℕ, ◌≡◌, true, false, List, [], ◌∷◌, ◌++◌, map, codes, refl}
 use Rattle.std.specs.Fmt.{digits}
 use Rattle.std.specs.List.{slice_split}
-use Rattle.hv_plain.specs.Bytes.{is_newline, is_gap, trimmed}
+use Rattle.hv_plain.specs.Bytes.{is_newline, trimmed}
 use Rattle.hv_plain.specs.Config.{is_on}
 use Rattle.hv_plain.specs.Source.{Line, put, if_defined, if_not_defined, otherwise, end_if, source_lines, is_nested, kept}
-use Rattle.hv_plain.specs.Program.{Literal, Statement, Program, program_tokens, shown}
+use Rattle.hv_plain.specs.Program.{Program, program_tokens, shown}
 use Rattle.hv_plain.specs.Run.{start, output_of, variable_of}
 use Rattle.hv_plain.specs.ModelFile.{model_of, options, fault}
-use Rattle.hv_plain.specs.declared.model.ModelKind.TheVariants.{BadLine, Repeated, TooMany}
+use Rattle.hv_plain.specs.declared.model.ModelKind.TheVariants.{BadLine, Repeated}
 
 options_A : List (List ℕ)
 options_A = codes "A" ∷ []
@@ -49,9 +49,9 @@ is_well_nested = refl
 
 product_1 : Program
 product_1 = record {
-    variables = variable_of (codes "A") ∷ [];
-    statements = record { test = []; byte = 120 } ∷ record { test = record { variable = variable_of (codes "A"); negated = false } ∷ []; byte = 65 } ∷ [];
-  }
+  variables = variable_of (codes "A") ∷ [];
+  statements = record { test = []; byte = 120 } ∷ record { test = record { variable = variable_of (codes "A"); negated = false } ∷ []; byte = 65 } ∷ [];
+}
 
 printed_1 : shown (program_tokens product_1) ≡ codes "extern int hv_opt_A ;\nint putchar ( int ) ;\nint main ( void ) {\nputchar ( 120 ) ;\nif ( hv_opt_A ) putchar ( 65 ) ;\n}\n"
 unfolding product_1 digits

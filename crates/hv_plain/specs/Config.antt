@@ -1,5 +1,5 @@
 -- Configurations of a model without rules.
-use Rattle.std.specs.Prelude.{ℕ, ◌≡◌, Bool, true, false, cond, List, [], ◌∷◌, length}
+use Rattle.std.specs.Prelude.{ℕ, ◌≡◌, Bool, false, cond, List, [], ◌∷◌, length}
 use Rattle.std.specs.Str.{bytes_eq}
 
 -- a configuration gives each option a value; without rules each one is valid

@@ -1,7 +1,7 @@
 -- The model file: a line is empty, a comment, or names an option.
 -- Rules are not in this definition: a line with one is a bad line.
-use Rattle.std.specs.Prelude.{ℕ, Bool, true, false, cond, ◌+◌, ◌-◌, ◌==◌, ◌&&◌, List, [], ◌∷◌, ◌++◌, length, map, take, slice_index, codes}
-use Rattle.std.specs.List.{slice_split, list_any, starts_with}
+use Rattle.std.specs.Prelude.{ℕ, Bool, false, cond, ◌+◌, ◌-◌, ◌==◌, ◌&&◌, List, [], ◌∷◌, ◌++◌, length, take, slice_index, codes}
+use Rattle.std.specs.List.{slice_split, list_any}
 use Rattle.std.specs.Str.{bytes_eq}
 use Rattle.hv_plain.specs.Bytes.{is_newline, is_empty, words}
 use Rattle.hv_plain.specs.Name.{is_option_name}
@@ -49,10 +49,10 @@ naming names n name more =
 abbrev pub reading_from : List (List ℕ) → ℕ → List (List ℕ) → ModelReading
 reading_from names n [] = options names
 reading_from names n (line ∷ lines) = elim (line_of_words (words line)) [
-    | nothing ↦ reading_from names (n + 1) lines
-    | option name ↦ naming names n name (reading_from (names ++ name ∷ []) (n + 1) lines)
-    | bad ↦ fault n BadLine
-    ]
+  | nothing ↦ reading_from names (n + 1) lines
+  | option name ↦ naming names n name (reading_from (names ++ name ∷ []) (n + 1) lines)
+  | bad ↦ fault n BadLine
+]
 
 abbrev pub model_of : List ℕ → ModelReading
 model_of bytes = reading_from [] 1 (counted_lines (slice_split is_newline bytes))

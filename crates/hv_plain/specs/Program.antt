@@ -1,6 +1,6 @@
 -- Small programs: declarations of option variables, that of `putchar`, and a `main` of `putchar`
 -- statements, each with or without a test. Their printed form, and the program that a text is.
-use Rattle.std.specs.Prelude.{ℕ, ◌≡◌, ◌<◌, Bool, true, false, cond, ◌||◌, List, [], ◌∷◌, ◌++◌, map, codes, decimal, Contains, All}
+use Rattle.std.specs.Prelude.{ℕ, ◌≡◌, ◌<◌, Bool, cond, ◌||◌, List, [], ◌∷◌, ◌++◌, codes, decimal, Contains, All}
 use Rattle.std.specs.List.{slice_split, flat_map}
 use Rattle.std.specs.Str.{bytes_eq}
 use Rattle.hv_plain.specs.Bytes.{is_gap}

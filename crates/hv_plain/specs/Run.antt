@@ -1,5 +1,5 @@
 -- What small programs do, the variant of a small source, and what it is to encode one.
-use Rattle.std.specs.Prelude.{ℕ, ◌≡◌, ◌≢◌, Bool, true, false, cond, not, ◌&&◌, ◌==◌, ◌≤◌, List, [], ◌∷◌, ◌++◌, length, map, codes, All, AllPairs, count_by}
+use Rattle.std.specs.Prelude.{ℕ, ◌≡◌, ◌≢◌, Bool, cond, not, ◌==◌, ◌≤◌, List, [], ◌∷◌, ◌++◌, length, map, codes, All, AllPairs, count_by}
 use Rattle.std.specs.List.{list_all}
 use Rattle.std.specs.Str.{bytes_eq}
 use Rattle.hv_plain.specs.Config.{IsValid, is_on}
@@ -73,8 +73,8 @@ pub record IsVariant (options : List (List ℕ)) (source : List ℕ) (values : L
 -- behaviour, the product's run from the configuration's start is the variant's run
 pub record RunsAsVariants (options : List (List ℕ)) (source : List ℕ) (product : Program) : Type 0 where
   pub agrees : (values : List Bool) → IsValid options values → (variant : Program) → IsVariant options source values variant → (input : List ℕ) (steps : ℕ)
-    → (run variant no_start input steps).ending ≢ undefined
-    → run product (start options values) input steps ≡ run variant no_start input steps
+      → (run variant no_start input steps).ending ≢ undefined
+      → run product (start options values) input steps ≡ run variant no_start input steps
 
 -- a test in which no literal stands twice
 abbrev pub IsConcise : Statement → Type 0

@@ -18,10 +18,12 @@ pub record Wanted : Type 0 where
   pub words : List (List ℕ)
   pub state : State
 
+-- the reading of a token: what is due behind it, and what is to be done
 pub record Reading : Type 0 where
   pub due : Wanted
   pub action : Action
 
+-- what the code's values mean
 abbrev pub wanted_of : Due → Wanted
 wanted_of due = record { words = map (λ word. word.now) due.words.now; state = due.state }
 
@@ -34,6 +36,7 @@ wanted words state = record { words = words; state = state }
 abbrev pub reading : List (List ℕ) → State → Action → Reading
 reading words state action = record { due = wanted words state; action = action }
 
+-- a token at which nothing is to be done
 abbrev pub moved : List (List ℕ) → State → Option Reading
 moved words state = Some (reading words state Nothing)
 
@@ -48,6 +51,7 @@ abbrev pub option_number : List (List ℕ) → List ℕ → Option ℕ
 option_number names token =
     cond (bytes_eq (take 7 token) (codes "hv_opt_")) (position (bytes_eq (drop 7 token)) names) None
 
+-- the value at an option's number; `None` is the value of a variable that is not declared
 abbrev pub at_option : List (Option Bool) → Option ℕ → Option Bool
 at_option known None = None
 at_option known (Some i) = slice_index_or known i None
@@ -66,6 +70,7 @@ byte_of (a ∷ b ∷ c ∷ []) =
     (Some ((a - 48) * 100 + (b - 48) * 10 + (c - 48))) None
 byte_of (_ ∷ _ ∷ _ ∷ _ ∷ _) = None
 
+-- the reading of a token in each state, or `None` where no program has it there
 abbrev pub next_in_declarations : List ℕ → Option Reading
 next_in_declarations token =
     cond (bytes_eq token (codes "extern")) (moved (codes "int" ∷ []) Variable)
@@ -111,6 +116,7 @@ next_in names known (AfterOperand holds) token = next_behind_operand holds token
 next_in names known (Byte holds) token = behind_byte holds (byte_of token)
 next_in names known End token = None
 
+-- the words that are due come first
 abbrev pub next_by : List (List ℕ) → List (Option Bool) → List (List ℕ) → State → List ℕ → Option Reading
 next_by names known [] state token = next_in names known state token
 next_by names known (word ∷ words) state token = cond (bytes_eq token word) (moved words state) None
@@ -124,6 +130,7 @@ IsWithin n Nothing = Unit {0}
 IsWithin n (Declare i) = i < n
 IsWithin n (Put _) = Unit {0}
 
+-- the values of the declared variables, and the output, behind an action
 abbrev pub known_after : List Bool → Action → List (Option Bool) → List (Option Bool)
 known_after values Nothing known = known
 known_after values (Declare i) known = slice_set known i (slice_get values i)
@@ -144,6 +151,7 @@ is_end (AfterOperand _) = false
 is_end (Byte _) = false
 is_end End = true
 
+-- nothing more is due
 abbrev pub is_done : Wanted → Bool
 is_done due = length due.words == 0 && is_end due.state
 
@@ -154,11 +162,13 @@ run_from names values due known output (token ∷ tokens) =
     option_and_then (λ step. run_from names values step.due (known_after values step.action known) (output_after step.action output) tokens)
     (next names known due token)
 
+-- at the start no variable is declared
 abbrev pub start_due : Wanted
 start_due = wanted [] Declarations
 
 abbrev pub unknown : List (List ℕ) → List (Option Bool)
 unknown names = replicate (length names) None
 
+-- the output of the program that a text is, or `None` where it is none
 abbrev pub answer : List (List ℕ) → List Bool → List ℕ → Option (List ℕ)
 answer names values text = run_from names values start_due (unknown names) [] (slice_split is_gap text)

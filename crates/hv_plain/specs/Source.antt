@@ -1,6 +1,6 @@
 -- Small sources: a `main` of `putchar` statements within groups, and what preprocessing keeps of it.
 -- Every other source is none; nothing else of preprocessing or of C is defined here.
-use Rattle.std.specs.Prelude.{ℕ, ◌≡◌, ◌<◌, ◌≤◌, Bool, true, false, cond, not, ◌&&◌, nat_lt, List, [], ◌∷◌, ◌++◌, length, map, codes, decimal, Contains, IsTrue, All}
+use Rattle.std.specs.Prelude.{ℕ, ◌≡◌, ◌<◌, Bool, true, false, cond, not, ◌&&◌, nat_lt, List, [], ◌∷◌, ◌++◌, length, map, codes, decimal, Contains, IsTrue, All}
 use Rattle.std.specs.List.{slice_split, list_all}
 use Rattle.hv_plain.specs.Bytes.{is_newline, trimmed}
 

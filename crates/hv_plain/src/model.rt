@@ -73,7 +73,7 @@ impl std::marker::Model for Model {
     ghost use Rattle.std.specs.Prelude.{ℕ, List, map, length, ◌≤◌};
     ghost use Rattle.std.specs.String.{string_bytes};
     ghost use Rattle.hv_plain.specs.ModelKind.{kind_name, kind_number};
-ghost use Rattle.hv_plain.specs.Name.{AllOptionNames, is_option_name as option_name};
+    ghost use Rattle.hv_plain.specs.Name.{AllOptionNames, is_option_name as option_name};
 
     ghost Value = { List (List ℕ) };
 
@@ -113,7 +113,9 @@ impl Model {
     pub fn position(&self, name: &[u8]) -> Option<usize>
         ensures { result ≡ position (bytes_eq name.now) self.now }
     {
-        self.names.iter().position(|option| name == option.as_bytes())
+        self.names
+            .iter()
+            .position(|option| name == option.as_bytes())
     }
 }
 

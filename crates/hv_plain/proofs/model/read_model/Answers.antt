@@ -17,6 +17,6 @@ pub returns-in_err-add-in-Ok-Some-clause-refused : goal.returns-in_err-add-in-Ok
 returns-in_err-add-in-Ok-Some-clause-refused c =
     let p = err_from_is_err_and c.from_residual.result c.from_residual.ensures.1 in
     rw (p.1, p.2) (refused_line (model_of c.args.bytes.now) c.loop-line.model c.loop-line.number (counted_lines (slice_split is_newline c.loop-line.rest.now))
-      (counted_lines (slice_split is_newline c.in-Some.more.now)) (without_return c.in-Some.line.now) c.in-Ok-Some.name.now c.in_err-add-in-Ok-Some.field-0.0
-      c.loop-line.invariant.0 c.in-Some.ensures.some (rw (← c.strip_return.ensures) (rw c.in-Ok-Some.field-0-is at c.in-Ok-Some.ensures.read))
-      (c.in_err-add-in-Ok-Some.ensures.refused (reading_from (c.loop-line.model ++ c.in-Ok-Some.name.now ∷ []) (c.loop-line.number + 1) (counted_lines (slice_split is_newline c.in-Some.more.now)))))
+    (counted_lines (slice_split is_newline c.in-Some.more.now)) (without_return c.in-Some.line.now) c.in-Ok-Some.name.now c.in_err-add-in-Ok-Some.field-0.0
+    c.loop-line.invariant.0 c.in-Some.ensures.some (rw (← c.strip_return.ensures) (rw c.in-Ok-Some.field-0-is at c.in-Ok-Some.ensures.read))
+    (c.in_err-add-in-Ok-Some.ensures.refused (reading_from (c.loop-line.model ++ c.in-Ok-Some.name.now ∷ []) (c.loop-line.number + 1) (counted_lines (slice_split is_newline c.in-Some.more.now)))))

@@ -1,4 +1,4 @@
-use Rattle.std.proofs.Common.{◌≡◌, ℕ, ◌+◌, ◌<◌, ◌≤◌, ◌^◌, length}
+use Rattle.std.proofs.Common.{◌≡◌, ◌+◌, ◌≤◌, length}
 use Rattle.std.specs.List.{slice_split}
 use Rattle.hv_plain.specs.Bytes.{is_newline}
 use Rattle.hv_plain.specs.ModelFile.{counted_lines, model_of, reading_from}

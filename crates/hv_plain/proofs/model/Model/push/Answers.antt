@@ -1,6 +1,5 @@
-use Rattle.std.proofs.Common.{◌≡◌, ℕ, ◌<◌, ◌≤◌, Bool, true, false, cond, List, [], ◌∷◌, ◌++◌, map, length, arith, length-append, String, Global, sym, ◌∙◌, ap}
+use Rattle.std.proofs.Common.{◌≡◌, ◌<◌, ◌≤◌, Bool, true, false, cond, List, [], ◌∷◌, ◌++◌, map, length, arith, length-append, String, Global, ap}
 use Rattle.std.specs.Prelude.{IsTrue}
-use Rattle.std.specs.List.{All}
 use Rattle.std.specs.String.{string_bytes}
 use Rattle.std.proofs.lemmas.List.{map-append}
 use Rattle.std.proofs.lemmas.List.Elements.{All-push}
@@ -16,8 +15,10 @@ kept : (ok : Bool) (items now : List (String Global)) (option : String Global) �
     → AllOptionNames (map string_bytes items) → length items < 256 → IsTrue (is_option_name (string_bytes option))
     → AllOptionNames (map string_bytes now) × (length now ≤ 256)
 kept true items now option e all room named =
-    rw e ( rw map-append (All-push (λ name. IsTrue (is_option_name name)) (map string_bytes items) (string_bytes option) all named)
-         , omega (arith, length-append items (option ∷ [])) )
+    rw e (
+      rw map-append (All-push (λ name. IsTrue (is_option_name name)) (map string_bytes items) (string_bytes option) all named),
+      omega (arith, length-append items (option ∷ [])),
+    )
 kept false items now option e all room named = rw e (all, omega arith)
 
 pub invariant_of-self : goal.invariant_of-self

@@ -1,0 +1,4 @@
+int putchar(int);
+int main(void) {
+    putchar(120);
+}

@@ -1,0 +1,7 @@
+use Rattle.hv_cond.specs.Diagram.{IsNode, holds, size, node}
+use Rattle.hv_cond.proofs.Combining.{falsity_fails}
+use Rattle.hv_cond.proofs.stores.Store.falsity.Goals as goal
+
+pub returns-clause-meaning : goal.returns-clause-meaning
+unfolding IsNode holds size node
+returns-clause-meaning c = λ v. falsity_fails c.args.self.now.decisions v

@@ -1,0 +1,7 @@
+use Rattle.hv_cond.specs.Diagram.{IsNode, holds, size, node}
+use Rattle.hv_cond.proofs.Combining.{truth_holds}
+use Rattle.hv_cond.proofs.stores.Store.truth.Goals as goal
+
+pub returns-clause-meaning : goal.returns-clause-meaning
+unfolding IsNode holds size node
+returns-clause-meaning c = λ v. truth_holds c.args.self.now.decisions v

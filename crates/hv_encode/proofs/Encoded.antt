@@ -1,0 +1,106 @@
+-- The printed metaproduct of a source's body encodes the source.
+use Rattle.std.proofs.Common.{◌≡◌, ℕ, ◌<◌, true, false, not, List, [], ◌∷◌, map, refl, sym, ◌∙◌, ap, arith, length, suc}
+use Rattle.std.specs.List.{All, AllByRecursion, Contains, count_by, filter, slice_split}
+use Rattle.std.proofs.lemmas.List.Sums.{length-filter}
+use Rattle.std.proofs.lemmas.List.{get_or-map, length-map}
+use Rattle.hv_plain.specs.Bytes.{is_gap}
+use Rattle.std.proofs.lemmas.List.Elements.{All-from_recursion, recursion_from_All, All-map, All-weaker, Contains-get_or, All-contains_itself}
+use Rattle.hv_plain.specs.Config.{is_on}
+use Rattle.hv_plain.specs.Name.{is_option_name, AllOptionNames}
+use Rattle.hv_plain.specs.Source.{IsSmallSource, kept, is_put}
+use Rattle.hv_plain.specs.Program.{Program, IsTyped, IsTypedStatement, IsProgramText, shown, program_tokens}
+use Rattle.hv_plain.specs.Run.{Run, ended, start, variable_of, variables_of, output_of, plain_statement, no_start, IsConcise, Encodes, RunsAsVariants}
+use Rattle.hv_encode.specs.declared.line.Line.{Line}
+use Rattle.hv_encode.specs.declared.line.Line.TheVariants.{Put, IfDefined, IfNotDefined, Else, EndIf}
+use Rattle.hv_encode.specs.declared.lift.Group.{Group}
+use Rattle.hv_encode.specs.Lines.{name_at, plain, IsOption, IsKnown}
+use Rattle.hv_encode.specs.Lift.{test_in, lifted, product_of, opened}
+use Rattle.hv_encode.proofs.Semantics.{output-lifted}
+use Rattle.hv_encode.proofs.Sources.{body-unique}
+use Rattle.hv_encode.proofs.Tokens.{no_gap, IsGapless, IsGaplessStatement, variable_has_none, program_has_none, split-shown}
+use Rattle.hv_encode.proofs.Product.{lifted-all, test-all, test-concise}
+
+output-plain : (value : List ℕ → ℕ) (bytes : List ℕ) → output_of value (map plain_statement bytes) ≡ bytes
+output-plain value [] = refl
+output-plain value (byte ∷ bytes) = rw (output-plain value bytes) refl
+
+lifted-puts : (names : List (List ℕ)) (groups : List Group) (lines : List Line) → length (lifted names groups lines) ≡ length (filter is_put (map (plain names) lines))
+lifted-puts names groups [] = refl
+lifted-puts names groups (Put byte ∷ lines) = ap suc (lifted-puts names groups lines)
+lifted-puts names groups (IfDefined option ∷ lines) = lifted-puts names (opened groups option false ∷ groups) lines
+lifted-puts names groups (IfNotDefined option ∷ lines) = lifted-puts names (opened groups option true ∷ groups) lines
+lifted-puts names [] (Else ∷ lines) = lifted-puts names [] lines
+lifted-puts names (group ∷ groups) (Else ∷ lines) = lifted-puts names (opened groups group.option (not group.negated) ∷ groups) lines
+lifted-puts names [] (EndIf ∷ lines) = lifted-puts names [] lines
+lifted-puts names (group ∷ groups) (EndIf ∷ lines) = lifted-puts names groups lines
+
+lifted-size : (names : List (List ℕ)) (lines : List Line) → length (lifted names [] lines) ≡ count_by is_put (map (plain names) lines)
+lifted-size names lines = lifted-puts names [] lines ∙ length-filter is_put (map (plain names) lines)
+
+module _ (names : List (List ℕ)) (named : AllOptionNames names) where
+  name_named : (option : ℕ) → IsOption names option → is_option_name (name_at names option) ≡ true
+  name_named option is = named option [] is.within
+
+  contains_variable : (option : ℕ) → IsOption names option → Contains (variables_of names) (variable_of (name_at names option))
+  contains_variable option is =
+      let place = get_or-map variable_of names option [] [] is.within in
+      let within : option < length (variables_of names) = rw (length-map names variable_of) is.within in
+      rw place at (Contains-get_or (variables_of names) option [] within)
+
+  typed : (lines : List Line) → AllByRecursion (IsKnown names) lines → IsTyped (variables_of names) (product_of names lines)
+  typed lines known = record {
+    variables = All-contains_itself (variables_of names);
+    statements = All-from_recursion (IsTypedStatement (variables_of names)) (lifted names [] lines)
+        (lifted-all names (IsTypedStatement (variables_of names))
+        (λ byte groups small marked options. record { byte = small; test = test-all names (λ literal. Contains (variables_of names) literal.variable) (λ group is. contains_variable group.option is) groups options })
+        [] lines tt tt known);
+  }
+
+  gapless_variables : AllByRecursion (λ variable. no_gap variable ≡ true) (variables_of names)
+  gapless_variables = recursion_from_All (λ variable. no_gap variable ≡ true) (variables_of names)
+      (All-map (λ variable. no_gap variable ≡ true) variable_of names (All-weaker (λ name. is_option_name name ≡ true) (λ name. no_gap (variable_of name) ≡ true) variable_has_none names named))
+
+  gapless_statements : (lines : List Line) → AllByRecursion (IsKnown names) lines → AllByRecursion IsGaplessStatement (lifted names [] lines)
+  gapless_statements lines known = lifted-all names IsGaplessStatement
+      (λ byte groups small marked options. record { byte = small; test = recursion_from_All IsGapless (test_in names groups) (test-all names IsGapless (λ group is. variable_has_none (name_at names group.option) (name_named group.option is)) groups options) })
+      [] lines tt tt known
+
+  pub reads : (lines : List Line) → AllByRecursion (IsKnown names) lines → (text : List ℕ) → text ≡ shown (program_tokens (product_of names lines))
+      → IsProgramText (variables_of names) text (product_of names lines)
+  reads lines known text printed = record {
+    tokens = ap (slice_split is_gap) printed ∙ split-shown (program_tokens (product_of names lines)) (program_has_none (product_of names lines) gapless_variables (gapless_statements lines known));
+    typed = typed lines known;
+  }
+
+module _ (names : List (List ℕ)) where
+  runs : (lines : List Line) (bytes : List ℕ) → IsSmallSource names bytes (map (plain names) lines) → RunsAsVariants names bytes (product_of names lines)
+  runs lines bytes small = record {
+    agrees = λ values valid variant is input steps defined.
+        let body = body-unique names bytes is.body (map (plain names) lines) is.reads small in
+        let product : output_of (start names values) (lifted names [] lines) ≡ kept (is_on names values) [] (map (plain names) lines) = output-lifted names values [] lines tt in
+        let kept_bytes : kept (is_on names values) [] (map (plain names) lines) ≡ kept (is_on names values) [] is.body = ap (kept (is_on names values) []) (sym body) in
+        let plain_run : output_of no_start variant.statements ≡ kept (is_on names values) [] is.body =
+        ap (λ (p : Program). output_of no_start p.statements) is.is ∙ output-plain no_start (kept (is_on names values) [] is.body) in
+        let R : List ℕ → Run = λ output. record { output = output; taken = 0; ending = ended 0 } in
+        ap R (product ∙ kept_bytes ∙ sym plain_run);
+  }
+
+  concise : (lines : List Line) → AllByRecursion (IsKnown names) lines → All IsConcise (lifted names [] lines)
+  concise lines known = All-from_recursion IsConcise (lifted names [] lines)
+      (lifted-all names IsConcise (λ byte groups small marked options. test-concise names groups marked options) [] lines tt tt known)
+
+  -- the printed metaproduct of the lines encodes a source of them
+  pub encodes-product : (lines : List Line) → All (IsKnown names) lines → (bytes text : List ℕ) → IsSmallSource names bytes (map (plain names) lines)
+      → IsProgramText (variables_of names) text (product_of names lines) → text ≡ shown (program_tokens (product_of names lines)) → Encodes names bytes text
+  encodes-product lines known bytes text small is_read printed =
+      record {
+        product = product_of names lines;
+        reads = is_read;
+        runs = runs lines bytes small;
+        printed = printed;
+        variables = refl;
+        size = λ body is.
+            let same = lifted-size names lines ∙ ap (count_by is_put) (body-unique names bytes (map (plain names) lines) body small is) in
+            omega arith;
+        concise = concise lines (recursion_from_All (IsKnown names) lines known);
+      }

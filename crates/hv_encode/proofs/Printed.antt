@@ -1,0 +1,163 @@
+-- The text of each part of a program, as it is written.
+use Rattle.std.proofs.Common.{◌≡◌, ℕ, ◌+◌, ◌<◌, ◌≤◌, ◌%◌, ◌^◌, Bool, true, false, ◌&&◌, ◌||◌, ◌==◌, List, [], ◌∷◌, ◌++◌, reverse, cond, refl, sym, ◌∙◌, ap, arith, length, get_or, take, codes, decimal, Result, Ok, Err, OnOk, Some, slice_get, zero, suc}
+use Rattle.std.specs.List.{flat_map, list_all, list_any}
+use Rattle.std.proofs.lemmas.Bool.Decides.{nat_tests}
+use Rattle.std.proofs.lemmas.Fmt.{decimal_by_steps}
+use Rattle.std.proofs.lemmas.Grind.{flat_map-append}
+use Rattle.std.proofs.lemmas.List.{append_assoc, append-nil, take_more, take_all, map-append}
+use Rattle.hv_plain.specs.Name.{is_digit}
+use Rattle.hv_plain.specs.Program.{Literal, Statement, shown, shown_token, ends_a_line, literal_tokens, test_tokens, call_tokens, statement_tokens, declaration_tokens, head_tokens, program_tokens}
+use Rattle.hv_plain.specs.Run.{variable_of, variables_of}
+use Rattle.hv_encode.specs.declared.line.Line.{Line}
+use Rattle.hv_encode.specs.declared.lift.Group.{Group}
+use Rattle.hv_encode.specs.Lift.{IsBegun, is_tested, opening_tokens, part_of_test, test_in, has_literal, opened, lifted, product_of}
+use Rattle.hv_encode.proofs.Lists.{list_all-append, and_both, and_parts, reverse-front, list_any-reverse}
+
+-- three writes in a row are one
+pub wrote_three : {T E : Type 0} (r : Result T E) (t0 t1 t2 t3 a b c x : List ℕ) → t1 ≡ t0 ++ a → t2 ≡ t1 ++ b → OnOk r (t3 ≡ t2 ++ c) → a ++ (b ++ c) ≡ x → OnOk r (t3 ≡ t0 ++ x)
+wrote_three (Err e) t0 t1 t2 t3 a b c x p q h is = tt
+wrote_three (Ok v) t0 t1 t2 t3 a b c x p q h is =
+    h ∙ ap (λ t. t ++ c) (q ∙ ap (λ t. t ++ b) p) ∙ append_assoc (t0 ++ a) b c ∙ append_assoc t0 a (b ++ c) ∙ ap (λ t. t0 ++ t) is
+
+pub declaration_text : (name : List ℕ) → codes "extern int hv_opt_" ++ (name ++ codes " ;\n") ≡ shown (declaration_tokens (variable_of name))
+declaration_text name = ap (λ rest. codes "extern int hv_opt_" ++ rest) (sym (append_assoc name (codes " ") (codes ";\n")))
+
+pub literal_text : (name : List ℕ) (negated : Bool) → cond negated (codes "! hv_opt_") (codes "hv_opt_") ++ (name ++ codes " ") ≡ shown (literal_tokens (record { variable = variable_of name; negated = negated }))
+literal_text name true = ap (λ rest. codes "! hv_opt_" ++ rest) (sym (append-nil (name ++ codes " ")))
+literal_text name false = ap (λ rest. codes "hv_opt_" ++ rest) (sym (append-nil (name ++ codes " ")))
+
+digit_is_one : (n : ℕ) → n < 10 → is_digit (48 + n) ≡ true
+digit_is_one n h = grind (arith, nat_tests)
+
+decimal_digits : (n : ℕ) → n < 2 ^ 64 → list_all is_digit (decimal n) ≡ true
+decimal_digits n small =
+    decimal_by_steps (λ _ digits. list_all is_digit digits ≡ true)
+    (λ m h. and_both _ _ (digit_is_one m h) refl)
+    (λ m front h before. list_all-append is_digit front ((48 + m % 10) ∷ []) ∙ and_both _ _ before (and_both _ _ (digit_is_one (m % 10) (omega arith)) refl))
+    n small
+
+digit_is_not : (byte other : ℕ) → is_digit byte ≡ true → 57 < other → (byte == other) ≡ false
+digit_is_not byte other h far = grind (arith, nat_tests)
+
+all_false : (a b c p q r : Bool) → a ≡ false → b ≡ false → c ≡ false → (((a && p) || (b && q)) || (c && r)) ≡ false
+all_false a b c p q r x y z = rw (x, y, z) refl
+
+digits_end_none : (token : List ℕ) → list_all is_digit token ≡ true → ends_a_line token ≡ false
+digits_end_none [] h = refl
+digits_end_none (byte ∷ token) h =
+    let digit = (and_parts (is_digit byte) (list_all is_digit token) h).0 in
+    all_false _ _ _ _ _ _ (digit_is_not byte 59 digit (omega arith)) (digit_is_not byte 123 digit (omega arith)) (digit_is_not byte 125 digit (omega arith))
+
+pub call_text : (byte : ℕ) → byte < 256 → codes "putchar ( " ++ (decimal byte ++ codes " ) ;\n") ≡ shown (call_tokens byte)
+call_text byte small =
+    ap (λ rest. codes "putchar ( " ++ rest)
+    (sym (append_assoc (decimal byte) (codes " ") (codes ") ;\n"))
+    ∙ ap (λ ends. (decimal byte ++ cond ends 10 32 ∷ []) ++ codes ") ;\n") (sym (digits_end_none (decimal byte) (decimal_digits byte (omega arith)))))
+
+pub shown-append : (xs ys : List (List ℕ)) → shown (xs ++ ys) ≡ shown xs ++ shown ys
+shown-append xs ys = flat_map-append shown_token xs ys
+
+tests_more : (first : Literal) (test : List Literal) (literal : Literal) → shown (test_tokens (first ∷ test)) ++ (codes "&& " ++ shown (literal_tokens literal)) ≡ shown (test_tokens (first ∷ (test ++ literal ∷ [])))
+tests_more first [] literal = sym (shown-append (literal_tokens first) (codes "&&" ∷ literal_tokens literal))
+tests_more first (next ∷ more) literal =
+    ap (λ t. t ++ (codes "&& " ++ shown (literal_tokens literal))) (shown-append (literal_tokens first) (codes "&&" ∷ test_tokens (next ∷ more)))
+    ∙ append_assoc (shown (literal_tokens first)) (codes "&& " ++ shown (test_tokens (next ∷ more))) (codes "&& " ++ shown (literal_tokens literal))
+    ∙ ap (λ t. shown (literal_tokens first) ++ (codes "&& " ++ t)) (tests_more next more literal)
+    ∙ sym (shown-append (literal_tokens first) (codes "&&" ∷ test_tokens (next ∷ (more ++ literal ∷ []))))
+
+opening_more : (test : List Literal) (literal : Literal) → shown (opening_tokens test) ++ (cond (is_tested test) (codes "&& ") (codes "if ( ") ++ shown (literal_tokens literal)) ≡ shown (opening_tokens (test ++ literal ∷ []))
+opening_more [] literal = refl
+opening_more (first ∷ test) literal = ap (λ t. codes "if ( " ++ t) (tests_more first test literal)
+
+tested_more : (test : List Literal) (literal : Literal) → is_tested (test ++ literal ∷ []) ≡ true
+tested_more [] literal = refl
+tested_more (first ∷ test) literal = refl
+
+pub begun_more : (before : List ℕ) (test : List Literal) (literal : Literal) (t0 t1 t2 : List ℕ) (tested : Bool) → IsBegun before test t0 tested
+    → t1 ≡ t0 ++ cond tested (codes "&& ") (codes "if ( ") → t2 ≡ t1 ++ shown (literal_tokens literal) → IsBegun before (test ++ literal ∷ []) t2 true
+begun_more before test literal t0 t1 t2 tested begun p q = record {
+  is_written =
+      let O = cond tested (codes "&& ") (codes "if ( ") in
+      let L = shown (literal_tokens literal) in
+      q ∙ ap (λ t. t ++ L) (p ∙ ap (λ t. t ++ O) begun.is_written) ∙ append_assoc (before ++ shown (opening_tokens test)) O L ∙ append_assoc before (shown (opening_tokens test)) (O ++ L)
+      ∙ ap (λ told. before ++ (shown (opening_tokens test) ++ (cond told (codes "&& ") (codes "if ( ") ++ L))) begun.is_told
+      ∙ ap (λ t. before ++ t) (opening_more test literal);
+  is_told = sym (tested_more test literal);
+}
+
+statement_text : (test : List Literal) (byte : ℕ) → shown (opening_tokens test) ++ (cond (is_tested test) (codes ") ") [] ++ shown (call_tokens byte)) ≡ shown (statement_tokens (record { test = test; byte = byte }))
+statement_text [] byte = refl
+statement_text (first ∷ test) byte = ap (λ t. codes "if ( " ++ t) (sym (shown-append (test_tokens (first ∷ test)) (codes ")" ∷ call_tokens byte)))
+
+pub statement_written : {T E : Type 0} (r : Result T E) (before : List ℕ) (test : List Literal) (byte : ℕ) (t0 t1 t2 : List ℕ) (tested : Bool) → IsBegun before test t0 tested
+    → t1 ≡ t0 ++ cond tested (codes ") ") [] → OnOk r (t2 ≡ t1 ++ shown (call_tokens byte)) → OnOk r (t2 ≡ before ++ shown (flat_map statement_tokens (record { test = test; byte = byte } ∷ [])))
+statement_written (Err e) before test byte t0 t1 t2 tested begun p q = tt
+statement_written (Ok v) before test byte t0 t1 t2 tested begun p q =
+    let C = cond tested (codes ") ") [] in
+    let S = shown (call_tokens byte) in
+    q ∙ ap (λ t. t ++ S) (p ∙ ap (λ t. t ++ C) begun.is_written) ∙ append_assoc (before ++ shown (opening_tokens test)) C S ∙ append_assoc before (shown (opening_tokens test)) (C ++ S)
+    ∙ ap (λ told. before ++ (shown (opening_tokens test) ++ (cond told (codes ") ") [] ++ S))) begun.is_told
+    ∙ ap (λ t. before ++ t) (statement_text test byte ∙ ap shown (sym (append-nil (statement_tokens (record { test = test; byte = byte })))))
+
+pub begun_part : (before : List ℕ) (test : List Literal) (literal : Literal) (text : List ℕ) (repeated : Bool) → repeated ≡ false
+    → IsBegun before (test ++ literal ∷ []) text true → IsBegun before (test ++ cond repeated [] (literal ∷ [])) text true
+begun_part before test literal text repeated e begun = rw e begun
+
+pub name_is : (names : List (List ℕ)) (option : ℕ) (name : List ℕ) → slice_get names option ≡ Some name → name ≡ get_or names option []
+name_is [] option name e = cc
+name_is (first ∷ names) zero name e = cc
+name_is (first ∷ names) (suc option) name e = name_is names option name e
+
+-- the text that statements are written as
+abbrev pub statements_text : List Statement → List ℕ
+statements_text statements = shown (flat_map statement_tokens statements)
+
+pub declared_next : (names : List (List ℕ)) (i : ℕ) (name before t0 t1 : List ℕ) → i < length names → name ≡ get_or names i []
+    → t0 ≡ before ++ shown (flat_map declaration_tokens (variables_of (take i names))) → t1 ≡ t0 ++ shown (declaration_tokens (variable_of name))
+    → t1 ≡ before ++ shown (flat_map declaration_tokens (variables_of (take (i + 1) names)))
+declared_next names i name before t0 t1 within is p q =
+    let F = λ (variables : List (List ℕ)). flat_map declaration_tokens variables in
+    let old = F (variables_of (take i names)) in
+    let new = declaration_tokens (variable_of (get_or names i [])) in
+    let next : F (variables_of (take (i + 1) names)) ≡ old ++ new =
+    ap (λ ns. F (variables_of ns)) (take_more names i [] within) ∙ ap F (map-append variable_of (take i names) (get_or names i [] ∷ []))
+    ∙ flat_map-append declaration_tokens (variables_of (take i names)) (variable_of (get_or names i []) ∷ []) ∙ ap (λ t. old ++ t) (append-nil new) in
+    q ∙ ap (λ t. t ++ shown (declaration_tokens (variable_of name))) p ∙ ap (λ n. (before ++ shown old) ++ shown (declaration_tokens (variable_of n))) is
+    ∙ append_assoc before (shown old) (shown new) ∙ ap (λ t. before ++ t) (sym (shown-append old new) ∙ ap shown (sym next))
+
+pub opened_is : (groups : List Group) (option : ℕ) (negated repeated : Bool) → repeated ≡ list_any (has_literal option negated) groups
+    → ◌≡◌ {A = Group} (record { option = option; negated = negated; repeated = repeated }) (opened (reverse groups) option negated)
+opened_is groups option negated repeated e =
+    let G : Bool → Group = λ told. record { option = option; negated = negated; repeated = told } in
+    ap G (e ∙ sym (list_any-reverse (has_literal option negated) groups))
+
+module _ (names : List (List ℕ)) where
+  test-append : (groups : List Group) (group : Group) → test_in names (groups ++ group ∷ []) ≡ part_of_test names group ++ test_in names groups
+  test-append [] group = sym (append-nil (part_of_test names group))
+  test-append (first ∷ groups) group =
+      ap (λ t. t ++ part_of_test names first) (test-append groups group) ∙ append_assoc (part_of_test names group) (test_in names groups) (part_of_test names first)
+
+  -- the parts of a test, from the outermost group on
+  pub test-reverse : (groups : List Group) → test_in names (reverse groups) ≡ flat_map (part_of_test names) groups
+  test-reverse [] = refl
+  test-reverse (group ∷ groups) =
+      ap (test_in names) (reverse-front group groups) ∙ test-append (reverse groups) group ∙ ap (λ t. part_of_test names group ++ t) (test-reverse groups)
+
+  pub statement-all : {T E : Type 0} (r : Result T E) (before text : List ℕ) (groups : List Group) (i byte : ℕ) → length groups ≤ i
+      → OnOk r (text ≡ before ++ statements_text (record { test = flat_map (part_of_test names) (take i groups); byte = byte } ∷ []))
+      → OnOk r (text ≡ before ++ statements_text (record { test = test_in names (reverse groups); byte = byte } ∷ []))
+  statement-all (Err e) before text groups i byte past h = tt
+  statement-all (Ok v) before text groups i byte past h =
+      let S : List Literal → Statement = λ test. record { test = test; byte = byte } in
+      h ∙ ap (λ test. before ++ statements_text (S test ∷ [])) (ap (flat_map (part_of_test names)) (take_all i groups past) ∙ sym (test-reverse groups))
+
+  -- the parts of the printed metaproduct, one behind the other
+  pub product_text : (lines : List Line) (t1 t2 t3 t4 : List ℕ) → t1 ≡ [] ++ shown (flat_map declaration_tokens (variables_of names))
+      → t2 ≡ t1 ++ codes "int putchar ( int ) ;\nint main ( void ) {\n" → t3 ≡ t2 ++ statements_text (lifted names [] lines) → t4 ≡ t3 ++ codes "}\n"
+      → t4 ≡ shown (program_tokens (product_of names lines))
+  product_text lines t1 t2 t3 t4 p q r s =
+      let D = flat_map declaration_tokens (variables_of names) in
+      let S = flat_map statement_tokens (lifted names [] lines) in
+      s ∙ ap (λ t. t ++ codes "}\n") (r ∙ ap (λ t. t ++ shown S) (q ∙ ap (λ t. t ++ shown head_tokens) p))
+      ∙ sym (shown-append (D ++ head_tokens ++ S) (codes "}" ∷ [])
+      ∙ ap (λ t. t ++ codes "}\n") (shown-append (D ++ head_tokens) S ∙ ap (λ t. t ++ shown S) (shown-append D head_tokens)))

@@ -1,0 +1,70 @@
+ghost use Rattle.std.specs.Prelude.{◌≡◌, ◌≢◌, ◌<◌, ◌++◌, ℕ, List, IfSome, IfNone, decimal, codes, Contains};
+ghost use Rattle.hv_plain.specs.Source.{Line as PlainLine, put, spelled, IsLine};
+ghost use Rattle.hv_encode.specs.Lines.{name_at, plain, IsOption, IsKnown};
+
+use hv_plain::Model;
+
+/// A line of the body of a small source. Options go by their numbers in the model.
+#[derive(Clone, Copy, Debug, PartialEq, Eq)]
+pub enum Line {
+    Put(u8),
+    IfDefined(usize),
+    IfNotDefined(usize),
+    Else,
+    EndIf,
+}
+
+/// The byte that the text is the number of, in decimal digits without a leading zero.
+fn byte_of(text: &[u8]) -> Option<u8>
+    ensures some { IfSome result (λ n. (n < 256) × (text.now ≡ decimal n)) }
+    ensures none { IfNone result ((n : ℕ) → n < 256 → text.now ≢ decimal n) }
+{
+    let Ok(digits) = str::from_utf8(text) else {
+        return None;
+    };
+    let Ok(value) = digits.parse::<u8>() else {
+        return None;
+    };
+    let mut buffer = itoa::Buffer::new();
+    if buffer.format(value).as_bytes() == text {
+        Some(value)
+    } else {
+        None
+    }
+}
+
+/// The byte that the line puts.
+fn put_of(text: &[u8]) -> Option<u8>
+    ensures some { IfSome result (λ n. (n < 256) × (text.now ≡ spelled (put n))) }
+    ensures none { IfNone result ((n : ℕ) → n < 256 → text.now ≢ spelled (put n)) }
+{
+    byte_of(text.strip_prefix(b"putchar(")?.strip_suffix(b");")?)
+}
+
+/// The number of the option whose name stands behind the directive.
+fn option_behind(model: &Model, directive: &[u8], text: &[u8]) -> Option<usize>
+    ensures some { IfSome result (λ option. IsOption model.now option × (text.now ≡ directive.now ++ name_at model.now option)) }
+    ensures none { IfNone result ((name : List ℕ) → Contains model.now name → text.now ≢ directive.now ++ name) }
+{
+    model.position(text.strip_prefix(directive)?)
+}
+
+/// The line that the text, without blanks at its ends, is.
+pub fn line_of(model: &Model, text: &[u8]) -> Option<Line>
+    ensures some { IfSome result (λ line. IsKnown model.now line × (text.now ≡ spelled (plain model.now line))) }
+    ensures none { IfNone result ((line : PlainLine) → IsLine model.now line → text.now ≢ spelled line) }
+{
+    if let Some(byte) = put_of(text) {
+        Some(Line::Put(byte))
+    } else if let Some(option) = option_behind(model, b"#ifdef ", text) {
+        Some(Line::IfDefined(option))
+    } else if let Some(option) = option_behind(model, b"#ifndef ", text) {
+        Some(Line::IfNotDefined(option))
+    } else if text == b"#else".as_slice() {
+        Some(Line::Else)
+    } else if text == b"#endif".as_slice() {
+        Some(Line::EndIf)
+    } else {
+        None
+    }
+}

@@ -1,0 +1,39 @@
+ghost use Rattle.std.specs.Prelude.{◌≡◌, reverse};
+ghost use Rattle.hv_plain.specs.Bytes.{without_front_blanks as without_front, trimmed as trimmed_text};
+
+use hv_plain::is_blank;
+
+/// The text without the blanks at its front.
+fn without_front_blanks(text: &[u8]) -> &[u8]
+    ensures { result.now ≡ without_front text.now }
+{
+    let mut rest = text;
+    while let [first, more @ ..] = rest {
+        if !is_blank(*first) {
+            return rest;
+        }
+        rest = more;
+    }
+    rest
+}
+
+/// The text without the blanks at its back.
+fn without_back_blanks(text: &[u8]) -> &[u8]
+    ensures { result.now ≡ reverse (without_front (reverse text.now)) }
+{
+    let mut rest = text;
+    while let [more @ .., last] = rest {
+        if !is_blank(*last) {
+            return rest;
+        }
+        rest = more;
+    }
+    rest
+}
+
+/// The text without the blanks at both ends.
+pub fn trimmed(text: &[u8]) -> &[u8]
+    ensures { result.now ≡ trimmed_text text.now }
+{
+    without_back_blanks(without_front_blanks(text))
+}
