@@ -1,3 +1,4 @@
 pub mod Cutting
 pub mod Lexical
 pub mod Splices
+pub mod Stream

@@ -1,9 +1,12 @@
-//! Preprocessing tokens, and the definition of how a source file is cut into them.
+//! Preprocessing tokens, the definition of how a source file is cut into them, and the tokens of a
+//! translation unit under all configurations.
 #![tactic(auto)]
 
 mod front;
+mod stream;
 mod token;
 
 pub use front::{Front, Line, Match};
 pub use hv_base::{CTok, IntType, Keyword, Punct};
+pub use stream::{Classified, Failing, Parted, Stream, StreamTok, project};
 pub use token::{PpKind, PpTok};
