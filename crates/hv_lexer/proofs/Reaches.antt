@@ -44,8 +44,8 @@ module _ (file : ℕ) (text places : List ℕ) (line : Line) (space : Bool) (at 
   pub reaches-white : WhiteSpace ≡ front line (take (length text - at) (drop at text)) → Reaches file text places line true (at + 1) toks
   reaches-white e = λ out c. so_far out (at_white (front-there WhiteSpace e) (moved 1 line true out c))
 
-  pub reaches-newline : Newline ≡ front line (take (length text - at) (drop at text)) → Reaches file text places Start true (at + 1) toks
-  reaches-newline e = λ out c. so_far out (at_newline (front-there Newline e) (moved 1 Start true out c))
+  pub reaches-newline : Newline ≡ front line (take (length text - at) (drop at text)) → Reaches file text places Start false (at + 1) toks
+  reaches-newline e = λ out c. so_far out (at_newline (front-there Newline e) (moved 1 Start false out c))
 
   pub reaches-comment : (n : ℕ) → Comment n ≡ front line (take (length text - at) (drop at text)) → Reaches file text places line true (at + n) toks
   reaches-comment n e = λ out c. so_far out (at_comment n (front-there (Comment n) e) (moved n line true out c))

@@ -22,7 +22,7 @@ module _ (file n : ℕ) (deeper : (line : Line) (space : Bool) (text places : Li
   go : (line : Line) (space : Bool) (byte : ℕ) (bytes places : List ℕ) (f : Front) → length (byte ∷ bytes) ≤ suc n → View line byte bytes f → front line (byte ∷ bytes) ≡ f
       → Cuttable file line space (byte ∷ bytes) places
   go line space byte bytes places f h (view_newline a) e =
-      let r = deeper Start true bytes (drop 1 places) (omega arith) in (r.0, at_newline e r.1)
+      let r = deeper Start false bytes (drop 1 places) (omega arith) in (r.0, at_newline e r.1)
   go line space byte bytes places f h (view_white a) e =
       let r = deeper line true bytes (drop 1 places) (omega arith) in (r.0, at_white e r.1)
   go line space byte bytes places f h (view_line a) e =

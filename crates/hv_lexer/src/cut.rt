@@ -96,7 +96,7 @@ pub(crate) fn cut(
             }
             Front::Newline => {
                 line = Line::Start;
-                space = true;
+                space = false;
                 at += 1;
             }
             Front::Comment(len) => {

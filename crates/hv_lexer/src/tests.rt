@@ -30,7 +30,7 @@ fn assert_token<R: Abort>(rt: &R, token: &PpTok, row: &Row) {
 #[test]
 fn files_are_cut(rt: HostRuntime) -> Result<(), Fail> {
     use PpKind::{CharConstant, HeaderName, Identifier, Number, Other, Punctuator, StringLiteral};
-    let table: [(&str, &[Row]); 12] = [
+    let table: [(&str, &[Row]); 13] = [
         ("", &[]),
         (
             "a+++b",
@@ -64,7 +64,7 @@ fn files_are_cut(rt: HostRuntime) -> Result<(), Fail> {
                 (Punctuator, 1, 2, "#", true, true),
                 (Identifier, 3, 10, "include", true, false),
                 (HeaderName, 11, 17, "<a//b>", true, false),
-                (Punctuator, 18, 19, "<", true, true),
+                (Punctuator, 18, 19, "<", false, true),
                 (Identifier, 19, 20, "a", false, false),
                 (Punctuator, 20, 21, ">", false, false),
             ],
@@ -95,6 +95,14 @@ fn files_are_cut(rt: HostRuntime) -> Result<(), Fail> {
                 (Punctuator, 1, 2, ".", false, false),
                 (Punctuator, 2, 3, ".", false, false),
                 (Punctuator, 3, 6, ">>=", false, false),
+            ],
+        ),
+        (
+            "a \r\n\tb\n/**/c",
+            &[
+                (Identifier, 0, 1, "a", false, true),
+                (Identifier, 5, 6, "b", true, true),
+                (Identifier, 11, 12, "c", true, true),
             ],
         ),
         (
@@ -130,4 +138,64 @@ fn open_comments_are_refused(rt: HostRuntime) {
         };
         assert_eq!(rt; offset, Some(at), "at {text}");
     }
+}
+
+/// Whether the spellings of the tokens, with one blank between them, are these.
+fn is_spelled(tokens: &[PpTok], spellings: &str) -> bool {
+    let mut rest = spellings.split(' ');
+    for token in tokens {
+        match rest.next() {
+            Some(spelling) if token.text.as_slice() == spelling.as_bytes() => {}
+            _ => return false,
+        }
+    }
+    rest.next().is_none()
+}
+
+#[test]
+fn the_examples_of_the_standard_are_cut(rt: HostRuntime) -> Result<(), Fail> {
+    // 6.4 paragraphs 5 and 6, 6.4.9 paragraph 3, and splices within tokens of each kind.
+    let table = [
+        ("1Ex", "1Ex"),
+        ("x+++++y", "x ++ ++ + y"),
+        ("0x3<1/a.h>1e2", "0x3 < 1 / a . h > 1e2"),
+        ("\"a//b\"", "\"a//b\""),
+        ("// */", ""),
+        ("f = g/**//h;", "f = g / h ;"),
+        ("//\\\ni();\nx", "x"),
+        ("/\\\n/ j();\nx", "x"),
+        ("glue(/,/) k();", "glue ( / , / ) k ( ) ;"),
+        ("/*//*/ l();", "l ( ) ;"),
+        ("m = n//**/o\n + p;", "m = n + p ;"),
+        ("<\\\n<\\\n=", "<<="),
+        ("'\\\\\nn'", "'\\n'"),
+        ("\"a\\\r\nb\"", "\"ab\""),
+        ("1e\\\n+\\\n5", "1e+5"),
+        ("a\\ \nb", "a \\ b"),
+        ("x'y\nz", "x 'y z"),
+        ("$`@", "$ ` @"),
+    ];
+    for (text, spellings) in table {
+        let tokens = lex(rt.alloc(), 0, text.as_bytes())?;
+        let fits = if spellings.is_empty() {
+            tokens.len() == 0
+        } else {
+            is_spelled(tokens.as_slice(), spellings)
+        };
+        assert!(rt; fits, "at {text}");
+    }
+    Ok(())
+}
+
+#[test]
+fn each_punctuator_is_one_token(rt: HostRuntime) -> Result<(), Fail> {
+    let all =
+        "[ ] ( ) { } . -> ++ -- & * + - ~ ! / % << >> < > <= >= == != ^ | && || ? : ; ... = *= /= %= += -= <<= >>= &= ^= |= , # ##";
+    let tokens = lex(rt.alloc(), 0, all.as_bytes())?;
+    assert_eq!(rt; tokens.len(), 48);
+    assert!(rt; is_spelled(tokens.as_slice(), all));
+    for token in tokens.as_slice() {
+        assert_eq!(rt; token.kind, PpKind::Punctuator);
+    }
+    Ok(())
 }

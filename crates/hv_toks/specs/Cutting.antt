@@ -111,8 +111,8 @@ prepend tok (tokens toks) = tokens (tok ∷ toks)
 prepend tok (open_comment offset) = open_comment offset
 
 -- the cutting of what is left of a file behind the splicing of lines, where `places` are the offsets of its
--- bytes, `line` is what stands on the line before it, and `space` says whether white space does. A comment
--- is white space, and no line ends within it
+-- bytes, `line` is what stands on the line before it, and `space` says whether white space stands directly
+-- before it. A comment is white space, and no line ends within it; a newline begins a line and is none
 pub data Cuts (file : ℕ) : Line → (space : Bool) → (text places : List ℕ) → Cutting → Type 0 where
   at_end : {line : Line} {space : Bool} {text places : List ℕ} → front line text ≡ End
       → Cuts file line space text places (tokens [])
@@ -120,7 +120,7 @@ pub data Cuts (file : ℕ) : Line → (space : Bool) → (text places : List ℕ
       → Cuts file line true (drop 1 text) (drop 1 places) out
       → Cuts file line space text places out
   at_newline : {line : Line} {space : Bool} {text places : List ℕ} {out : Cutting} → front line text ≡ Newline
-      → Cuts file Start true (drop 1 text) (drop 1 places) out
+      → Cuts file Start false (drop 1 text) (drop 1 places) out
       → Cuts file line space text places out
   at_comment : {line : Line} {space : Bool} {text places : List ℕ} {out : Cutting} (n : ℕ) → front line text ≡ Comment n
       → Cuts file line true (drop n text) (drop n places) out

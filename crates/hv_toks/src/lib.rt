@@ -10,3 +10,6 @@ pub use front::{Front, Line, Match};
 pub use hv_base::{CTok, IntType, Keyword, Punct};
 pub use stream::{Classified, Failing, Parted, Stream, StreamTok, project};
 pub use token::{PpKind, PpTok};
+
+#[cfg(test)]
+mod tests;

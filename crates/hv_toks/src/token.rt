@@ -21,7 +21,7 @@ pub struct PpTok {
     pub span: Span,
     /// Its spelling behind the splicing of lines.
     pub text: Text,
-    /// Whether white space, a newline or a comment stands directly before it.
+    /// Whether white space other than a newline, or a comment, stands directly before it.
     pub space: bool,
     /// Whether it is the first token of its line.
     pub first: bool,
