@@ -1,0 +1,10 @@
+pub mod Branches
+pub mod Canonical
+pub mod Combining
+pub mod Complementing
+pub mod Counts
+pub mod Lifts
+pub mod Reached
+pub mod Sound
+pub mod Tables
+pub mod Walking

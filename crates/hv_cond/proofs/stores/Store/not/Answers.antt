@@ -1,0 +1,36 @@
+use Rattle.std.proofs.Common.{◌≡◌, ◌+◌, ◌≤◌, not, Bool, List, IfOk, sym, subst}
+use Rattle.hv_cond.specs.declared.connectives.Connective.TheVariants.{And, Or}
+use Rattle.hv_cond.specs.Diagram.{Diagram, IsNode, Keeps, holds, nodes, size}
+use Rattle.hv_cond.specs.Nodes.{diagram}
+use Rattle.hv_cond.proofs.Combining.{Extends-answers}
+use Rattle.hv_cond.proofs.Sound.{Keeps-from, bound_by_branches, meaning_of_complement}
+use Rattle.hv_cond.proofs.stores.Store.not.Goals as goal
+
+pub invariant_of-self : goal.invariant_of-self
+invariant_of-self c =
+    let e = c.complement.ensures.grows.extends in
+    let s = c.self.inside in
+    let i = c.self.invariant in
+    record {
+      reduced = c.complement.ensures.grows.reduced;
+      conjunctions_right = Extends-answers e And s.conjunctions i.conjunctions_right;
+      disjunctions_right = Extends-answers e Or s.disjunctions i.disjunctions_right;
+      complements_right = c.complement.ensures.grows.answers;
+    }
+
+pub returns-clause-keeps : goal.returns-clause-keeps
+returns-clause-keeps c = subst (λ (d : Diagram). Keeps d (diagram c.complement.new.nodes)) c.self.view_is (Keeps-from c.complement.ensures.grows.extends)
+
+pub returns-clause-bound : goal.returns-clause-bound
+returns-clause-bound c =
+    let s = c.self.inside in
+    let first = subst (λ (d : Diagram). IsNode d c.args.a) (sym c.self.view_is) c.requires in
+    subst (λ (d : Diagram). size (diagram c.complement.new.nodes) ≤ size d + nodes d c.args.a) c.self.view_is
+    (bound_by_branches s.nodes c.complement.new.nodes s.complements c.complement.new.complements c.args.a c.self.invariant.reduced first c.complement.ensures.grows)
+
+pub returns-clause-meaning : goal.returns-clause-meaning
+returns-clause-meaning c =
+    let s = c.self.inside in
+    let first = subst (λ (d : Diagram). IsNode d c.args.a) (sym c.self.view_is) c.requires in
+    subst (λ (d : Diagram). IfOk c.complement.result (λ r. (v : List Bool) → holds (diagram c.complement.new.nodes) r v ≡ not (holds d c.args.a v))) c.self.view_is
+    (meaning_of_complement s.nodes c.complement.new.nodes c.args.a c.complement.result c.complement.ensures.grows.extends first c.complement.ensures.answer)

@@ -1,0 +1,17 @@
+//! Conditions: Boolean functions of a fixed number of variables, kept as reduced ordered binary
+//! decision diagrams, so that equal functions are one node.
+#![tactic(auto)]
+
+mod complements;
+mod conditions;
+mod connectives;
+mod nodes;
+mod paths;
+mod results;
+mod stores;
+
+pub use conditions::{Cond, Node};
+pub use stores::Store;
+
+#[cfg(test)]
+mod tests;

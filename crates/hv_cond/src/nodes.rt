@@ -1,0 +1,151 @@
+//! The table of nodes, in which no branch is superfluous and none stands twice.
+ghost use Rattle.std.specs.Prelude.{◌≡◌, ◌≢◌, ℕ, ◌+◌, ◌<◌, ◌≤◌, [], ◌∷◌, ◌++◌, List, Bool, is_ok, length, if◌then◌else◌, IfNone, IfOk, IfSome, OnErr, OnOk};
+ghost use Rattle.hv_cond.specs.Diagram.{IsNode, holds, node, size, top, value_of};
+ghost use Rattle.hv_cond.specs.Nodes.{diagram, level, newest_first, place_of, Extends, IsBranch, IsDecision, IsHalves, IsReduced, MayBranch};
+
+use crate::conditions::{Cond, Node};
+use std::alloc::{AllocError, Global};
+use std::collections::HashMap;
+
+/// A branch: `high` where the variable is true, and `low` where it is not.
+#[derive(Clone, Copy, PartialEq, Eq, Hash, Debug)]
+pub(crate) struct Decision {
+    pub(crate) variable: u32,
+    pub(crate) low: Cond,
+    pub(crate) high: Cond,
+}
+
+/// The branches in the order in which they came, with the place of each.
+#[derive(Drop)]
+pub(crate) struct Nodes {
+    pub(crate) variables: u32,
+    pub(crate) decisions: Vec<Decision>,
+    pub(crate) places: HashMap<Decision, Cond>,
+}
+
+impl Nodes {
+    pub(crate) fn new(alloc: Global, variables: u32) -> Nodes
+        ensures reduced { IsReduced result }
+        ensures empty { result.decisions.items ≡ [] }
+        ensures variables { result.variables ≡ variables }
+    {
+        Nodes {
+            variables,
+            decisions: Vec::new(alloc),
+            places: HashMap::new(alloc),
+        }
+    }
+
+    /// The branch that a node is, unless it is a terminal.
+    pub(crate) fn decision(&self, c: Cond) -> Option<Decision>
+        requires reduced { IsReduced self.now }
+        requires node { IsNode (diagram self.now) c }
+        ensures branch { IfSome result (IsBranch self.now.variables (newest_first self.now) c) }
+        ensures terminal { IfNone result (c.index < 2) }
+    {
+        if c.index < 2 {
+            return None;
+        }
+        Some(self.decisions[(c.index - 2) as usize])
+    }
+
+    pub(crate) fn node(&self, c: Cond) -> Node
+        requires reduced { IsReduced self.now }
+        requires node { IsNode (diagram self.now) c }
+        ensures { result ≡ node (diagram self.now) c }
+    {
+        match self.decision(c) {
+            Some(
+                Decision {
+                    variable,
+                    low,
+                    high,
+                },
+            ) => Node::Branch {
+                var: variable,
+                low,
+                high,
+            },
+            None if c == Cond::TRUTH => Node::Truth,
+            None => Node::Falsity,
+        }
+    }
+
+    /// The first variable that a condition depends on, or the number of variables.
+    pub(crate) fn level(&self, c: Cond) -> u32
+        requires reduced { IsReduced self.now }
+        requires node { IsNode (diagram self.now) c }
+        ensures { result ≡ level self.now.variables (newest_first self.now) c }
+    {
+        match self.decision(c) {
+            Some(decision) => decision.variable,
+            None => self.variables,
+        }
+    }
+
+    /// What a condition means where the variable is false, and where it is true.
+    pub(crate) fn halves(&self, c: Cond, variable: u32) -> (Cond, Cond)
+        requires reduced { IsReduced self.now }
+        requires node { IsNode (diagram self.now) c }
+        requires in_range { variable < self.now.variables }
+        requires level { variable ≤ level self.now.variables (newest_first self.now) c }
+        ensures { IsHalves self.now.variables (newest_first self.now) c variable result.0 result.1 }
+    {
+        match self.decision(c) {
+            Some(decision) if decision.variable == variable => (decision.low, decision.high),
+            _ => (c, c),
+        }
+    }
+
+    /// The condition that a branch means, entered only if it is neither superfluous nor known.
+    pub(crate) fn branch(&mut self, decision: Decision) -> Result<Cond, AllocError>
+        requires reduced { IsReduced self.old }
+        requires may_branch { MayBranch self.old decision }
+
+        ensures reduced { IsReduced self.new }
+        ensures extends { Extends self.old self.new }
+        ensures grows { size (diagram self.new) ≤ size (diagram self.old) + 1 }
+        ensures err { OnErr result (size (diagram self.new) ≡ size (diagram self.old)) }
+        ensures node { IfOk result (IsNode (diagram self.new)) }
+        ensures meaning { IfOk result (λ c. (v : List Bool) → holds (diagram self.new) c v ≡ (if value_of v decision.variable then holds (diagram self.old) decision.high v else holds (diagram self.old) decision.low v)) }
+    {
+        if decision.low == decision.high {
+            return Ok(decision.low);
+        }
+        match self.find(&decision) {
+            Some(place) => Ok(place),
+            None => self.push(decision),
+        }
+    }
+
+    /// Where the table has a branch.
+    fn find(&self, decision: &Decision) -> Option<Cond>
+        requires { IsReduced self.now }
+        ensures { result ≡ place_of (newest_first self.now) decision.now }
+    {
+        self.places.get(decision).copied()
+    }
+
+    /// Enters a branch that the table does not have.
+    fn push(&mut self, decision: Decision) -> Result<Cond, AllocError>
+        requires reduced { IsReduced self.old }
+        requires decision { IsDecision self.old.variables (newest_first self.old) decision }
+
+        ensures reduced { IsReduced self.new }
+        ensures variables { self.new.variables ≡ self.old.variables }
+        ensures ok { OnOk result (newest_first self.new ≡ decision ∷ newest_first self.old) }
+        ensures err { OnErr result (newest_first self.new ≡ newest_first self.old) }
+        ensures place { IfOk result (λ c. c.index ≡ top (newest_first self.old)) }
+    {
+        let Ok(index) = u32::try_from(self.decisions.len() + 2) else {
+            return Err(AllocError);
+        };
+        let place = Cond { index };
+        self.places.reserve(1)?;
+        self.decisions.push(decision)?;
+        let Ok(_) = self.places.insert(decision, place) else {
+            unreachable!()
+        };
+        Ok(place)
+    }
+}

@@ -1,0 +1,178 @@
+//! The store of conditions.
+ghost use Rattle.std.specs.Prelude.{◌≡◌, ◌↔◌, ℕ, ◌+◌, ◌*◌, ◌<◌, ◌≤◌, ◌&&◌, ◌||◌, not, true, false, Bool, List, length, IfOk, IfSome, IsNone, IsTrue};
+ghost use Rattle.hv_cond.specs.Diagram.{Describes, Diagram, IsLeast, IsNever, IsNode, Keeps, SameMeaning, holds, node, nodes, size, value_of};
+
+use crate::complements::{Complements, complement};
+use crate::conditions::{Cond, Node};
+use crate::connectives::{Connective, combine};
+use crate::nodes::{Decision, Nodes};
+use crate::paths;
+use crate::results::Results;
+use std::alloc::{AllocError, Global};
+use std::marker::Model;
+
+/// Conditions over a fixed number of variables, in one order. Equal conditions are one node. A
+/// store only grows, and a node of it means the same for ever.
+#[derive(Drop)]
+pub struct Store {
+    nodes: Nodes,
+    conjunctions: Results,
+    disjunctions: Results,
+    complements: Complements,
+}
+
+impl Model for Store {
+    ghost use Rattle.hv_cond.specs.Diagram.{Diagram};
+
+    ghost Value = { Diagram };
+
+    ghost use Rattle.hv_cond.specs.Nodes.{diagram};
+    ghost use Rattle.hv_cond.specs.Stores.{IsSound};
+
+    ghost view = { λ s. diagram s.nodes };
+
+    ghost invariant = { λ s. IsSound s.nodes s.conjunctions s.disjunctions s.complements };
+}
+
+impl Store {
+    /// A store of conditions over `vars` variables, with truth and falsity alone.
+    pub fn new(alloc: Global, vars: u32) -> Result<Store, AllocError>
+        ensures variables { IfOk result (λ store. store.variables ≡ vars) }
+        ensures empty { IfOk result (λ store. size store ≡ 0) }
+    {
+        Ok(Store {
+            nodes: Nodes::new(alloc, vars),
+            conjunctions: Results::new(alloc),
+            disjunctions: Results::new(alloc),
+            complements: Complements::new(alloc),
+        })
+    }
+
+    /// The condition that always holds.
+    pub fn truth(&self) -> Cond
+        ensures node { IsNode self.now result }
+        ensures meaning { (values : List Bool) → holds self.now result values ≡ true }
+    {
+        Cond::TRUTH
+    }
+
+    /// The condition that never holds.
+    pub fn falsity(&self) -> Cond
+        ensures node { IsNode self.now result }
+        ensures meaning { (values : List Bool) → holds self.now result values ≡ false }
+    {
+        Cond::FALSITY
+    }
+
+    /// The condition that holds where a variable is true.
+    pub fn var(&mut self, i: u32) -> Result<Cond, AllocError>
+        requires { i < self.old.variables }
+        ensures keeps { Keeps self.old self.new }
+        ensures bound { size self.new ≤ size self.old + 1 }
+        ensures node { IfOk result (IsNode self.new) }
+        ensures meaning { IfOk result (λ c. (values : List Bool) → holds self.new c values ≡ value_of values i) }
+    {
+        self.nodes.branch(Decision {
+            variable: i,
+            low: Cond::FALSITY,
+            high: Cond::TRUTH,
+        })
+    }
+
+    /// The conjunction of two conditions.
+    pub fn and(&mut self, a: Cond, b: Cond) -> Result<Cond, AllocError>
+        requires first { IsNode self.old a }
+        requires second { IsNode self.old b }
+        ensures keeps { Keeps self.old self.new }
+        ensures bound { size self.new ≤ size self.old + (nodes self.old a + 1) * (nodes self.old b + 1) }
+        ensures node { IfOk result (IsNode self.new) }
+        ensures meaning { IfOk result (λ c. (values : List Bool) → holds self.new c values ≡ (holds self.old a values && holds self.old b values)) }
+    {
+        combine(
+            &mut self.nodes,
+            &mut self.conjunctions,
+            Connective::And,
+            a,
+            b,
+        )
+    }
+
+    /// The disjunction of two conditions.
+    pub fn or(&mut self, a: Cond, b: Cond) -> Result<Cond, AllocError>
+        requires first { IsNode self.old a }
+        requires second { IsNode self.old b }
+        ensures keeps { Keeps self.old self.new }
+        ensures bound { size self.new ≤ size self.old + (nodes self.old a + 1) * (nodes self.old b + 1) }
+        ensures node { IfOk result (IsNode self.new) }
+        ensures meaning { IfOk result (λ c. (values : List Bool) → holds self.new c values ≡ (holds self.old a values || holds self.old b values)) }
+    {
+        combine(
+            &mut self.nodes,
+            &mut self.disjunctions,
+            Connective::Or,
+            a,
+            b,
+        )
+    }
+
+    /// The complement of a condition.
+    pub fn not(&mut self, a: Cond) -> Result<Cond, AllocError>
+        requires { IsNode self.old a }
+        ensures keeps { Keeps self.old self.new }
+        ensures bound { size self.new ≤ size self.old + nodes self.old a }
+        ensures node { IfOk result (IsNode self.new) }
+        ensures meaning { IfOk result (λ c. (values : List Bool) → holds self.new c values ≡ not (holds self.old a values)) }
+    {
+        complement(&mut self.nodes, &mut self.complements, a)
+    }
+
+    /// Whether a condition holds where the variables have these values.
+    pub fn eval(&self, c: Cond, values: &[bool]) -> bool
+        requires node { IsNode self.now c }
+        requires all_variables { length values.now ≡ self.now.variables }
+        ensures { result ≡ holds self.now c values.now }
+    {
+        paths::eval(&self.nodes, c, values)
+    }
+
+    /// Whether no assignment satisfies a condition.
+    pub fn is_false(&self, c: Cond) -> bool
+        requires { IsNode self.now c }
+        ensures { IsTrue result ↔ IsNever self.now c }
+    {
+        // Brings the invariant into the proof.
+        let _ = &self.nodes;
+        c == Cond::FALSITY
+    }
+
+    /// Whether two conditions hold under the same assignments: they are then one node.
+    pub fn same(&self, a: Cond, b: Cond) -> bool
+        requires first { IsNode self.now a }
+        requires second { IsNode self.now b }
+        ensures meaning { IsTrue result ↔ SameMeaning self.now a b }
+        ensures one_node { IsTrue result ↔ (a ≡ b) }
+    {
+        // Brings the invariant into the proof.
+        let _ = &self.nodes;
+        a == b
+    }
+
+    /// The first assignment that satisfies a condition, in the order of the variables and false
+    /// before true, or `None` where none does.
+    pub fn pick(&self, c: Cond) -> Result<Option<Vec<bool>>, AllocError>
+        requires { IsNode self.now c }
+        ensures none { IfOk result (λ found. IsNone found ↔ IsNever self.now c) }
+        ensures least { IfOk result (λ found. IfSome found (λ values. IsLeast self.now c values.items)) }
+    {
+        paths::pick(&self.nodes, c)
+    }
+
+    /// What a condition is: a terminal, or a branch on its first variable.
+    pub fn node(&self, c: Cond) -> Node
+        requires { IsNode self.now c }
+        ensures node { result ≡ node self.now c }
+        ensures described { Describes self.now c result }
+    {
+        self.nodes.node(c)
+    }
+}
