@@ -1,0 +1,4 @@
+pub mod BytesLemmas
+pub mod Completeness
+pub mod ListLemmas
+pub mod NameLemmas

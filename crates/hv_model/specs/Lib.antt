@@ -1,0 +1,9 @@
+pub mod Bytes
+pub mod Grammar
+pub mod Lines
+pub mod Machine
+pub mod ModelKind
+pub mod Name
+pub mod Rule
+pub mod Steps
+pub mod Token
