@@ -86,7 +86,7 @@ Goes names expr ts r =
     × ((q : Rule) (qs : List Rule) (outer : List Frame) (items : List Item) (rest : List Token) → Ends rest
         → run names (want (frame 0 false false true) outer (premises q qs ∷ items)) (ts ++ rest) ≡ run names (have (frame 0 false false true) outer (value r ∷ premises q qs ∷ items)) rest)
 
-negated_more : (n : ℕ) (items : List Item) → negated_times (n + 1) items ≡ negated_times (suc n) items
+pub negated_more : (n : ℕ) (items : List Item) → negated_times (n + 1) items ≡ negated_times (suc n) items
 negated_more n items = ap (λ k. negated_times k items) (add-one n)
 
 named : (names : List (List ℕ)) (name : List ℕ) → is_name name ≡ true → Goes names not (word name ∷ []) (option (place_of names name))

@@ -2,3 +2,4 @@ pub mod BytesLemmas
 pub mod Completeness
 pub mod ListLemmas
 pub mod NameLemmas
+pub mod Soundness
