@@ -3,3 +3,4 @@ pub mod Completeness
 pub mod ListLemmas
 pub mod NameLemmas
 pub mod Soundness
+pub mod TokenLemmas

@@ -5,5 +5,6 @@ pub mod Machine
 pub mod ModelKind
 pub mod Name
 pub mod Rule
+pub mod Said
 pub mod Steps
 pub mod Token

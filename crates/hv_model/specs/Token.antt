@@ -1,5 +1,6 @@
 -- How a line is cut into tokens.
-use Rattle.std.specs.Prelude.{ℕ, Bool, true, false, cond, ◌&&◌, ◌||◌, ◌==◌, List, [], ◌∷◌}
+use Rattle.std.specs.Prelude.{ℕ, Bool, true, false, cond, ◌&&◌, ◌||◌, ◌==◌, List, [], ◌∷◌, Option, Some, None}
+use Rattle.std.specs.Option.{option_map_or}
 use Rattle.hv_model.specs.Bytes.{is_blank}
 use Rattle.hv_model.specs.Name.{is_letter, is_digit}
 
@@ -27,14 +28,11 @@ abbrev pub single : ℕ → Token
 single byte = cond (byte == 33) negate (cond (byte == 40) open_ (cond (byte == 41) close other))
 
 -- a token of two bytes, where they are one
-abbrev pub is_implies : ℕ → ℕ → Bool
-is_implies first second = first == 61 && second == 62
-
-abbrev pub is_either : ℕ → ℕ → Bool
-is_either first second = first == 124 && second == 124
-
-abbrev pub is_both : ℕ → ℕ → Bool
-is_both first second = first == 38 && second == 38
+abbrev pub pair_of : ℕ → ℕ → Option Token
+pair_of first second =
+    cond (first == 61 && second == 62) (Some implies)
+    (cond (first == 124 && second == 124) (Some either)
+    (cond (first == 38 && second == 38) (Some both) None))
 
 -- the longest token first; blanks may stand between tokens
 abbrev pub tokens : List ℕ → List Token
@@ -43,6 +41,4 @@ tokens (byte ∷ []) = cond (is_blank byte) [] (cond (is_word_byte byte) (word (
 tokens (byte ∷ next ∷ bytes) =
     cond (is_blank byte) (tokens (next ∷ bytes))
     (cond (is_word_byte byte) (cond (is_word_byte next) (lengthened byte (tokens (next ∷ bytes))) (word (byte ∷ []) ∷ tokens (next ∷ bytes)))
-    (cond (is_implies byte next) (implies ∷ tokens bytes)
-    (cond (is_either byte next) (either ∷ tokens bytes)
-    (cond (is_both byte next) (both ∷ tokens bytes) (single byte ∷ tokens (next ∷ bytes))))))
+    (option_map_or (λ token. token ∷ tokens bytes) (pair_of byte next) (single byte ∷ tokens (next ∷ bytes))))

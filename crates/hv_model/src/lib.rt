@@ -6,6 +6,7 @@ mod bytes;
 mod faults;
 mod name;
 mod parser;
+mod scan;
 mod steps;
 
 pub use faults::{ConfigFault, ModelFault, ModelKind, ModelRefusal};

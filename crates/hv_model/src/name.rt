@@ -17,6 +17,13 @@ fn is_digit(byte: u8) -> bool
     byte.is_ascii_digit()
 }
 
+/// Whether the byte may stand in an identifier behind its first.
+pub(crate) fn is_word_byte(byte: u8) -> bool
+    ensures { result ≡ (letter byte || digit byte) }
+{
+    is_letter(byte) || is_digit(byte)
+}
+
 /// Whether each byte may stand in an identifier behind its first.
 fn are_name_bytes(text: &[u8]) -> bool
     ensures { result ≡ list_all (λ byte. letter byte || digit byte) text.now }
@@ -25,7 +32,7 @@ fn are_name_bytes(text: &[u8]) -> bool
 }
 
 /// Whether the text is an identifier.
-fn is_name(text: &[u8]) -> bool
+pub(crate) fn is_name(text: &[u8]) -> bool
     ensures { result ≡ name_test text.now }
 {
     match text {

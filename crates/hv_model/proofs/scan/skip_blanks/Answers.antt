@@ -1,0 +1,9 @@
+use Rattle.hv_model.proofs.ListLemmas.{take-rest}
+use Rattle.hv_model.proofs.TokenLemmas.{skipped, tokens-skipped}
+use Rattle.hv_model.proofs.scan.skip_blanks.Goals as goal
+
+pub returns-clause-same : goal.returns-clause-same
+returns-clause-same c = rw take-rest (tokens-skipped c.args.text.now c.blank_len.result c.blank_len.ensures.value)
+
+pub returns-clause-front : goal.returns-clause-front
+returns-clause-front c = rw take-rest (skipped c.args.text.now c.blank_len.result c.blank_len.ensures.value)
