@@ -3,4 +3,5 @@ pub mod Completeness
 pub mod ListLemmas
 pub mod NameLemmas
 pub mod Soundness
+pub mod StepLemmas
 pub mod TokenLemmas

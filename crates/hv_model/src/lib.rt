@@ -3,11 +3,12 @@
 #![tactic(auto)]
 
 mod bytes;
+mod code;
 mod faults;
 mod name;
 mod parser;
 mod scan;
-mod steps;
+mod stack;
 
 pub use faults::{ConfigFault, ModelFault, ModelKind, ModelRefusal};
 

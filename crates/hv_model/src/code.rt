@@ -1,0 +1,94 @@
+//! Rules as code for a machine with a stack.
+ghost use Rattle.std.specs.Prelude.{◌≡◌, ◌≤◌, [], ◌∷◌, ◌++◌, length, OnOk};
+ghost use Rattle.std.specs.List.{list_all};
+ghost use Rattle.hv_model.specs.Rule.{meets as meets_rule};
+ghost use Rattle.hv_model.specs.Steps.{fits as step_fits};
+
+use crate::stack::Stack;
+use std::alloc::{AllocError, Global};
+
+/// A step of a rule's code. The premises of a chain of implications are gathered in one place, so
+/// that a long chain needs no deep stack.
+#[derive(Clone, Copy, Debug, PartialEq, Eq)]
+pub(crate) enum Step {
+    /// Puts the value of an option on the stack.
+    Option(u16),
+    Not,
+    And,
+    Or,
+    /// The value on the stack is the first premise of an implication.
+    Suppose,
+    /// The value on the stack is a further premise.
+    SupposeToo,
+    /// The value on the stack is what follows from the premises.
+    Conclude,
+}
+
+/// The code of a rule, or its first part.
+#[derive(Debug, Drop)]
+pub(crate) struct Code {
+    pub(crate) steps: Vec<Step>,
+}
+
+impl std::marker::Model for Code {
+    ghost use Rattle.std.specs.Prelude.{List};
+    ghost use Rattle.hv_model.specs.declared.code.Step.{Step};
+
+    ghost Value = { List Step };
+
+    ghost view = { λ code. code.steps.items };
+
+    ghost use Rattle.hv_model.specs.Steps.{IsLow};
+
+    ghost invariant = { λ code. IsLow code.steps.items };
+}
+
+impl Code {
+    ghost use Rattle.hv_model.specs.Steps.{after, fits, items_of, rule_of};
+
+    /// No steps.
+    pub(crate) fn new(alloc: Global) -> Code
+        ensures { result ≡ [] }
+    {
+        Code {
+            steps: Vec::new(alloc),
+        }
+    }
+
+    /// Adds a step.
+    pub(crate) fn emit(&mut self, step: Step) -> Result<(), AllocError>
+        requires { length (after (items_of self.old) step) ≤ 1024 }
+        ensures { OnOk result (self.new ≡ self.old ++ step ∷ []) }
+    {
+        self.steps.push(step)?;
+        Ok(())
+    }
+
+    /// Whether the rule speaks of the first so many options alone.
+    pub(crate) fn fits(&self, options: usize) -> bool
+        ensures { result ≡ list_all (fits options) self.now }
+    {
+        self.steps.iter().all(|step| fits(*step, options))
+    }
+
+    /// Whether the options' values meet the rule.
+    pub(crate) fn meets(&self, values: &[bool]) -> bool
+        ensures { result ≡ meets_rule values.now (rule_of self.now) }
+    {
+        let mut stack = Stack::new();
+        for step in self.steps.iter() {
+            stack.apply(*step, values);
+        }
+        stack.top()
+    }
+}
+
+/// Whether the step speaks of the first so many options alone.
+fn fits(step: Step, options: usize) -> bool
+    ensures { result ≡ step_fits options step }
+{
+    match step {
+        Step::Option(i) => usize::from(i) < options,
+        _ => true,
+    }
+}
