@@ -1,6 +1,10 @@
 -- Lists in general.
 use Rattle.std.proofs.Common.{◌≡◌, ℕ, zero, suc, ◌+◌, ◌-◌, ◌<◌, ◌≤◌, Bool, true, false, not, List, [], ◌∷◌, map, cond, refl, ap, arith, length, take, drop, length-drop}
 use Rattle.std.specs.List.{list_any, position, position_or_len, slice_split, onto_first}
+use Rattle.std.specs.Prelude.{unwrap_or, nat_lt}
+use Rattle.std.proofs.Common.{inl, inr}
+use Rattle.std.proofs.lemmas.Bool.{cases_lt}
+use Rattle.std.proofs.lemmas.Bool.Decides.{nat_tests}
 use Rattle.std.proofs.lemmas.List.{take_all}
 use Rattle.std.proofs.lemmas.List.Splits.{slice_split_first, length-slice_split}
 
@@ -42,3 +46,19 @@ slice_split-some p xs = omega (arith, length-slice_split p xs)
 pub list_any-map : {X Y : Type 0} (p : Y → Bool) (f : X → Y) (xs : List X) → list_any p (map f xs) ≡ list_any (λ x. p (f x)) xs
 list_any-map p f [] = refl
 list_any-map p f (x ∷ xs) = rw (list_any-map p f xs) refl
+
+position_or_len-le : {X : Type 0} (p : X → Bool) (xs : List X) → position_or_len p xs ≤ length xs
+position_or_len-le p [] = omega arith
+position_or_len-le p (x ∷ xs) =
+    elim (p x) as (λ b. cond (not b) (1 + position_or_len p xs) 0 ≤ length (x ∷ xs)) [
+      | true ↦ omega arith
+      | false ↦ omega (arith, position_or_len-le p xs)
+    ]
+
+pub unwrap_or-position : {X : Type 0} (p : X → Bool) (xs : List X) → unwrap_or (position p xs) (length xs) ≡ position_or_len p xs
+unwrap_or-position p xs =
+    let le = position_or_len-le p xs in
+    elim (cases_lt (position_or_len p xs) (length xs)) [
+      | inl h ↦ let e : nat_lt (position_or_len p xs) (length xs) ≡ true = grind (arith, nat_tests) in rw e refl
+      | inr h ↦ let e : nat_lt (position_or_len p xs) (length xs) ≡ false = grind (arith, nat_tests) in rw e (omega (arith, le))
+    ]

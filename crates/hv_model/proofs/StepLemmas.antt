@@ -1,11 +1,12 @@
 -- The code of rules.
-use Rattle.std.proofs.Common.{◌≡◌, ℕ, zero, suc, ◌+◌, ◌<◌, ◌≤◌, Bool, true, false, ◌&&◌, ◌||◌, not, List, [], ◌∷◌, ◌++◌, cond, refl, sym, ◌∙◌, ap, arith, length, take, drop, get_or, map, fold, ◌⊎◌, inl, inr, length-append}
+use Rattle.std.proofs.Common.{◌≡◌, ℕ, zero, suc, ◌+◌, ◌<◌, ◌≤◌, Bool, true, false, ◌&&◌, ◌||◌, not, List, [], ◌∷◌, ◌++◌, cond, refl, sym, ◌∙◌, ap, arith, length, take, drop, get_or, map, fold, add-one, ◌⊎◌, inl, inr, length-append}
 use Rattle.std.proofs.lemmas.Bool.{cases_lt}
 use Rattle.std.proofs.lemmas.List.{take_more, take_all, take-append-le}
 use Rattle.hv_model.proofs.ListLemmas.{length-map}
 use Rattle.std.proofs.lemmas.List.Sums.{fold-append}
 use Rattle.hv_model.specs.Rule.{Rule, option, negation, conjunction, disjunction, implication, meets, is_about}
-use Rattle.hv_model.specs.Steps.{Item, value, premises, all_of, rule_in, concluded, implied, added, after, items_of, rule_on, rule_of, values_after, top_of, IsLow, fits}
+use Rattle.hv_model.specs.Steps.{Item, value, premises, all_of, rule_in, concluded, implied, added, after, items_of, rule_on, rule_of, values_after, top_of, IsLow, IsOperator, negated, fits}
+use Rattle.hv_model.specs.Machine.{negated_times}
 use Rattle.hv_model.specs.declared.code.Step.{Step}
 use Rattle.hv_model.specs.declared.code.Step.TheVariants.{Option, Not, And, Or, Suppose, SupposeToo, Conclude}
 
@@ -79,3 +80,31 @@ IsLow-push steps step low h = λ k.
       | inl past ↦ omega (arith, ap (λ s. length (items_of s)) (take_all k (steps ++ step ∷ []) (omega (arith, length-append steps (step ∷ [])))), ap length (items_of-push steps step))
       | inr within ↦ omega (arith, ap (λ s. length (items_of s)) (take-append-le k steps (step ∷ []) within), low k)
     ]
+
+after-operator : (items : List Item) (step : Step) → IsOperator step → length (after items step) ≤ length items
+after-operator items (Option i) h = absurd h
+after-operator [] Not h = omega arith
+after-operator (r ∷ items) Not h = omega arith
+after-operator [] And h = omega arith
+after-operator (s ∷ []) And h = omega arith
+after-operator (s ∷ r ∷ items) And h = omega arith
+after-operator [] Or h = omega arith
+after-operator (s ∷ []) Or h = omega arith
+after-operator (s ∷ r ∷ items) Or h = omega arith
+after-operator [] Suppose h = omega arith
+after-operator (r ∷ items) Suppose h = omega arith
+after-operator [] SupposeToo h = omega arith
+after-operator (s ∷ []) SupposeToo h = omega arith
+after-operator (s ∷ r ∷ items) SupposeToo h = omega arith
+after-operator [] Conclude h = omega arith
+after-operator (s ∷ []) Conclude h = omega arith
+after-operator (s ∷ r ∷ items) Conclude h = omega arith
+
+-- a step that puts no option on the stack leaves it low
+pub operator-low : (steps : List Step) (step : Step) → IsLow steps → IsOperator step → length (after (items_of steps) step) ≤ 1024
+operator-low steps step low h =
+    omega (arith, after-operator (items_of steps) step h, low (length steps), ap (λ s. length (items_of s)) (take_all (length steps) steps (omega arith)))
+
+pub negated_times-after : (n : ℕ) (items : List Item) → negated (negated_times n items) ≡ negated_times (n + 1) items
+negated_times-after zero items = refl
+negated_times-after (suc n) items = negated_times-after n (negated items) ∙ (ap (λ k. negated_times k (negated items)) (add-one n) ∙ sym (ap (λ k. negated_times k items) (add-one (suc n))))

@@ -4,6 +4,7 @@ pub mod Lines
 pub mod Machine
 pub mod ModelKind
 pub mod Name
+pub mod Parsed
 pub mod Rule
 pub mod Said
 pub mod Steps

@@ -3,7 +3,8 @@ use Rattle.std.specs.Prelude.{◌≡◌, ℕ, zero, suc, Bool, true, false, cond
 use Rattle.hv_model.specs.Grammar.{place_of, is_shallow}
 use Rattle.hv_model.specs.Name.{is_name}
 use Rattle.hv_model.specs.Rule.{Rule, option}
-use Rattle.hv_model.specs.Steps.{Item, value, items_of, conjoined, disjoined, negated, supposed, supposed_too, closed, rule_on}
+use Rattle.hv_model.specs.declared.code.Step.{Step}
+use Rattle.hv_model.specs.Steps.{Item, value, items_of, rule_of, conjoined, disjoined, negated, supposed, supposed_too, closed, rule_on}
 use Rattle.hv_model.specs.Token.{Token, implies, either, both, negate, open_, close, word, other}
 use Rattle.hv_model.specs.declared.parser.Frame.{Frame}
 
@@ -89,3 +90,13 @@ limited_step names m token = cond (is_allowed m token) (step names m token) None
 abbrev pub limited_run : List (List ℕ) → Machine → List Token → Option Rule
 limited_run names m [] = finished m
 limited_run names m (token ∷ tokens) = option_and_then (λ next. limited_run names next tokens) (limited_step names m token)
+
+-- a step of the machine was taken, or there is none
+abbrev pub IsTaken : Option Machine → Bool → Machine → Type 0
+IsTaken o true m = o ≡ Some m
+IsTaken o false m = o ≡ None
+
+-- a rule was read, or there is none
+abbrev pub IsSaid : Option Rule → Option (List Step) → Type 0
+IsSaid o (Some steps) = o ≡ Some (rule_of steps)
+IsSaid o None = o ≡ None

@@ -83,6 +83,11 @@ abbrev pub fits : ℕ → Step → Bool
 fits n (Option i) = nat_lt i n
 fits n _ = true
 
+-- a step that puts no option on the stack
+abbrev pub IsOperator : Step → Type 0
+IsOperator (Option i) = ⊥
+IsOperator _ = Unit {0}
+
 -- the stack never has more than 1024 items
 abbrev pub IsLow : List Step → Type 0
 IsLow steps = (k : ℕ) → length (items_of (take k steps)) ≤ 1024

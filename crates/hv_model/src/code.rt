@@ -1,5 +1,5 @@
 //! Rules as code for a machine with a stack.
-ghost use Rattle.std.specs.Prelude.{◌≡◌, ◌≤◌, [], ◌∷◌, ◌++◌, length, OnOk};
+ghost use Rattle.std.specs.Prelude.{◌≡◌, ◌≤◌, [], ◌∷◌, ◌++◌, length, if◌then◌else◌, OnOk};
 ghost use Rattle.std.specs.List.{list_all};
 ghost use Rattle.hv_model.specs.Rule.{meets as meets_rule};
 ghost use Rattle.hv_model.specs.Steps.{fits as step_fits};
@@ -44,7 +44,8 @@ impl std::marker::Model for Code {
 }
 
 impl Code {
-    ghost use Rattle.hv_model.specs.Steps.{after, fits, items_of, rule_of};
+    ghost use Rattle.hv_model.specs.Machine.{negated_times};
+    ghost use Rattle.hv_model.specs.Steps.{IsOperator, after, fits, items_of, rule_of};
 
     /// No steps.
     pub(crate) fn new(alloc: Global) -> Code
@@ -61,6 +62,37 @@ impl Code {
         ensures { OnOk result (self.new ≡ self.old ++ step ∷ []) }
     {
         self.steps.push(step)?;
+        Ok(())
+    }
+
+    /// Adds a step that puts no option on the stack.
+    fn operate(&mut self, step: Step) -> Result<(), AllocError>
+        requires { IsOperator step }
+        ensures { OnOk result (self.new ≡ self.old ++ step ∷ []) }
+    {
+        // Brings the invariant into the proof.
+        let _ = &self.steps;
+        self.emit(step)
+    }
+
+    /// Adds a step that puts no option on the stack, if it is wanted.
+    pub(crate) fn operate_if(&mut self, wanted: bool, step: Step) -> Result<(), AllocError>
+        requires { IsOperator step }
+        ensures { OnOk result (items_of self.new ≡ (if wanted then after (items_of self.old) step else items_of self.old)) }
+    {
+        if wanted {
+            self.operate(step)?;
+        }
+        Ok(())
+    }
+
+    /// Negates the value on the stack so many times.
+    pub(crate) fn negate(&mut self, times: u16) -> Result<(), AllocError>
+        ensures { OnOk result (items_of self.new ≡ negated_times times (items_of self.old)) }
+    {
+        for _ in 0..times {
+            self.operate(Step::Not)?;
+        }
         Ok(())
     }
 

@@ -6,6 +6,7 @@ mod bytes;
 mod code;
 mod faults;
 mod name;
+mod names;
 mod parser;
 mod scan;
 mod stack;

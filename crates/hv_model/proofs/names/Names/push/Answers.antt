@@ -1,0 +1,27 @@
+use Rattle.std.proofs.Common.{◌≡◌, ℕ, ◌<◌, ◌≤◌, Bool, true, false, cond, List, [], ◌∷◌, ◌++◌, map, length, arith, length-append, String, Global, sym, ◌∙◌, ap}
+use Rattle.std.specs.Prelude.{IsTrue}
+use Rattle.std.specs.List.{All}
+use Rattle.std.specs.String.{string_bytes}
+use Rattle.std.proofs.lemmas.List.{map-append}
+use Rattle.std.proofs.lemmas.List.Elements.{All-push}
+use Rattle.hv_model.specs.Name.{is_option_name, AllOptionNames}
+use Rattle.hv_model.proofs.ListLemmas.{length-map}
+use Rattle.hv_model.proofs.NameLemmas.{IsUtf8-option_name}
+use Rattle.hv_model.proofs.names.Names.push.Goals as goal
+
+pub unreachable-requires : goal.unreachable-requires
+unreachable-requires c = c.in_default.ensures.cases.0 (IsUtf8-option_name c.args.name.now c.requires.named)
+
+kept : (ok : Bool) (items now : List (String Global)) (option : String Global) → now ≡ cond ok (items ++ option ∷ []) items
+    → AllOptionNames (map string_bytes items) → length items < 256 → IsTrue (is_option_name (string_bytes option))
+    → AllOptionNames (map string_bytes now) × (length now ≤ 256)
+kept true items now option e all room named =
+    rw e ( rw map-append (All-push (λ name. IsTrue (is_option_name name)) (map string_bytes items) (string_bytes option) all named)
+         , omega (arith, length-append items (option ∷ [])) )
+kept false items now option e all room named = rw e (all, omega arith)
+
+pub invariant_of-self : goal.invariant_of-self
+invariant_of-self c =
+    kept _ c.self.inside.names.items c.push.new.self.items c.in-Ok-from_str.option c.push.ensures.items c.self.invariant.0
+    (omega (arith, length-map string_bytes c.self.inside.names.items, ap length c.self.view_is))
+    (rw (c.in-Ok-from_str.ensures.ok, c.in-Ok.ensures.cases.0) c.requires.named)
