@@ -1,5 +1,7 @@
 pub mod BytesLemmas
 pub mod Completeness
+pub mod Known
+pub mod Limits
 pub mod ListLemmas
 pub mod NameLemmas
 pub mod Soundness

@@ -1,5 +1,6 @@
 pub mod Bytes
 pub mod Grammar
+pub mod Known
 pub mod Lines
 pub mod Machine
 pub mod ModelKind
