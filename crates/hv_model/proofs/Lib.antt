@@ -4,6 +4,7 @@ pub mod Known
 pub mod Limits
 pub mod ListLemmas
 pub mod NameLemmas
+pub mod ReadRule
 pub mod Soundness
 pub mod StepLemmas
 pub mod TokenLemmas

@@ -1,8 +1,11 @@
 pub mod Bytes
+pub mod Codes
 pub mod Grammar
 pub mod Known
+pub mod Line
 pub mod Lines
 pub mod Machine
+pub mod Model
 pub mod ModelKind
 pub mod Name
 pub mod Parsed

@@ -5,9 +5,11 @@
 mod bytes;
 mod code;
 mod faults;
+mod lines;
 mod name;
 mod names;
 mod parser;
+mod rules;
 mod scan;
 mod stack;
 
