@@ -1,10 +1,10 @@
 -- A rule that is being read.
 use Rattle.std.proofs.Common.{◌≡◌, ℕ, Bool, true, false, ◌&&◌, List, [], ◌∷◌, cond, refl, sym, ◌∙◌, ap, length, ◌<◌, Option, Some, None}
-use Rattle.std.specs.Prelude.{option_and_then, IfSome, IfNone, IsTrue}
+use Rattle.std.specs.Prelude.{option_and_then, IfSome, IfNone, IfOk, IsTrue, Result, Ok, Err}
 use Rattle.std.specs.List.{list_all}
 use Rattle.hv_model.specs.Grammar.{IsRule}
 use Rattle.hv_model.specs.Known.{is_known}
-use Rattle.hv_model.specs.Machine.{Machine, IsSaid, limited_step, limited_run, start, finished, expr_done}
+use Rattle.hv_model.specs.Machine.{Machine, IsSaid, IsTaken, limited_step, limited_run, start, finished, expr_done}
 use Rattle.hv_model.specs.Parsed.{machine_of}
 use Rattle.hv_model.specs.Rule.{Rule, is_about}
 use Rattle.hv_model.specs.Steps.{items_of, rule_of, fits}
@@ -78,3 +78,15 @@ reading_about names text rest parser (Some steps) h none said items = λ n.
     ∙ (sym (and_true (about n (items_of parser.code)))
     ∙ (ap (λ ts. about n (items_of parser.code) && list_all (is_known n names) ts) (sym none)
     ∙ (h.known n ∙ sym (is_about-derived n rule.derived))))))
+
+pub IfOk-both : {T E : Type 0} (r : Result T E) (P Q R : T → Type 0) → ((x : T) → P x → Q x → R x) → IfOk r P → IfOk r Q → IfOk r R
+IfOk-both (Ok x) P Q R f p q = f x p q
+IfOk-both (Err e) P Q R f p q = tt
+
+pub taken_stuck : (o : Option Machine) (went : Bool) (m : Machine) → IsTaken o went m → went ≡ false → o ≡ None
+taken_stuck o false m h e = h
+taken_stuck o true m h e = cc
+
+pub taken_went : (o : Option Machine) (went : Bool) (m : Machine) → IsTaken o went m → went ≡ true → o ≡ Some m
+taken_went o true m h e = h
+taken_went o false m h e = cc

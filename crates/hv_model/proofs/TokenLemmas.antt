@@ -2,7 +2,7 @@
 use Rattle.std.proofs.Common.{◌≡◌, ℕ, zero, suc, ◌+◌, ◌<◌, ◌≤◌, Bool, true, false, ◌&&◌, ◌||◌, ◌==◌, List, [], ◌∷◌, cond, refl, sym, ◌∙◌, ap, subst, arith, length, take, drop, get_or, Option, Some, None}
 use Rattle.std.specs.List.{prefix_len}
 use Rattle.std.proofs.lemmas.Bool.Decides.{nat_tests}
-use Rattle.hv_model.specs.Bytes.{is_blank}
+use Rattle.hv_model.specs.Bytes.{is_blank, without_front_blanks}
 use Rattle.hv_model.specs.Name.{is_letter, is_digit}
 use Rattle.hv_model.specs.Token.{Token, word, tokens, lengthened, single, pair_of, is_word_byte}
 
@@ -75,3 +75,14 @@ pub tokens_single : (text : List ℕ) → 0 < length text → is_blank (get_or t
 tokens_single [] some b w p = absurd (omega arith)
 tokens_single (byte ∷ []) some b w p = rw (b, w) refl
 tokens_single (byte ∷ next ∷ text) some b w p = let q : pair_of byte next ≡ None = p (omega arith) in rw (b, w, q) refl
+
+drop_blanks : (text : List ℕ) → drop (prefix_len is_blank text) text ≡ without_front_blanks text
+drop_blanks [] = refl
+drop_blanks (byte ∷ text) =
+    elim (is_blank byte) as (λ b. drop (cond b (1 + prefix_len is_blank text) 0) (byte ∷ text) ≡ cond b (without_front_blanks text) (byte ∷ text)) [
+      | true ↦ drop-1+ (prefix_len is_blank text) byte text ∙ drop_blanks text
+      | false ↦ refl
+    ]
+
+pub skipped_blanks : (text : List ℕ) (n : ℕ) → n ≡ prefix_len is_blank text → drop n text ≡ without_front_blanks text
+skipped_blanks text n e = rw e (drop_blanks text)

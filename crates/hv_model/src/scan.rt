@@ -2,7 +2,7 @@
 ghost use Rattle.std.specs.Prelude.{◌≡◌, ◌<◌, ◌≤◌, [], ◌∷◌, false, true, length, slice_index, IfNone, IfSome};
 ghost use Rattle.std.specs.List.{prefix_len};
 ghost use Rattle.std.specs.Option.{option_map};
-ghost use Rattle.hv_model.specs.Bytes.{is_blank as blank};
+ghost use Rattle.hv_model.specs.Bytes.{is_blank as blank, without_front_blanks};
 ghost use Rattle.hv_model.specs.Said.{said};
 ghost use Rattle.hv_model.specs.Token.{tokens, pair_of, single as single_of, is_word_byte as word_byte};
 
@@ -42,6 +42,7 @@ fn word_len(text: &[u8]) -> usize
 
 /// The text behind the blanks at its front.
 pub(crate) fn skip_blanks(text: &[u8]) -> &[u8]
+    ensures value { result.now ≡ without_front_blanks text.now }
     ensures same { tokens result.now ≡ tokens text.now }
     ensures shorter { length result.now ≤ length text.now }
     ensures front { prefix_len blank result.now ≡ 0 }
