@@ -1,4 +1,5 @@
 pub mod BytesLemmas
+pub mod CondLemmas
 pub mod Completeness
 pub mod Known
 pub mod Limits

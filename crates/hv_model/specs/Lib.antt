@@ -1,5 +1,6 @@
 pub mod Bytes
 pub mod Codes
+pub mod Conds
 pub mod Grammar
 pub mod Known
 pub mod Line

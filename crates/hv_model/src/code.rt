@@ -1,10 +1,13 @@
 //! Rules as code for a machine with a stack.
-ghost use Rattle.std.specs.Prelude.{◌≡◌, ◌≤◌, [], ◌∷◌, ◌++◌, length, if◌then◌else◌, OnOk};
+ghost use Rattle.std.specs.Prelude.{◌≡◌, ◌≤◌, [], ◌∷◌, ◌++◌, length, true, Bool, List, if◌then◌else◌, IfOk, OnOk};
+ghost use Rattle.hv_cond.specs.Diagram.{IsNode, Keeps, holds};
 ghost use Rattle.std.specs.List.{list_all};
 ghost use Rattle.hv_model.specs.Rule.{meets as meets_rule};
 ghost use Rattle.hv_model.specs.Steps.{fits as step_fits};
 
+use crate::conds::Conds;
 use crate::stack::Stack;
+use hv_cond::{Cond, Store};
 use std::alloc::{AllocError, Global};
 
 /// A step of a rule's code. The premises of a chain of implications are gathered in one place, so
@@ -101,6 +104,23 @@ impl Code {
         ensures { result ≡ list_all (fits options) self.now }
     {
         self.steps.iter().all(|step| fits(*step, options))
+    }
+
+    /// The condition that the variables, which are the options, have values that meet the rule.
+    pub(crate) fn cond(&self, store: &mut Store) -> Result<Cond, AllocError>
+        requires { list_all (step_fits store.old.variables) self.now ≡ true }
+        ensures keeps { Keeps store.old store.new }
+        ensures node { IfOk result (IsNode store.new) }
+        ensures meaning { IfOk result (λ c. (values : List Bool) → holds store.new c values ≡ meets_rule values (rule_of self.now)) }
+    {
+        let mut stack = Conds::new(*self.steps.allocator());
+        for step in self.steps.iter() {
+            stack.apply(store, *step)?;
+        }
+        match stack.pop() {
+            Some(cond) => Ok(cond),
+            None => Ok(store.falsity()),
+        }
     }
 
     /// Whether the options' values meet the rule.

@@ -4,8 +4,10 @@
 
 mod bytes;
 mod code;
+mod conds;
 mod faults;
 mod lines;
+mod model;
 mod name;
 mod names;
 mod parser;
@@ -14,6 +16,7 @@ mod scan;
 mod stack;
 
 pub use faults::{ConfigFault, ModelFault, ModelKind, ModelRefusal};
+pub use model::{Model, is_valid, valid_cond};
 
 /// The words that name no option: the keywords, and the names that preprocessing keeps for itself
 /// (ISO/IEC 9899:1999, 6.4.1, 6.10.8).

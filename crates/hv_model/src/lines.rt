@@ -1,9 +1,9 @@
 //! The lines of a model file.
-ghost use Rattle.std.specs.Prelude.{◌≡◌};
+ghost use Rattle.std.specs.Prelude.{◌≡◌, ◌∷◌};
 ghost use Rattle.hv_model.specs.Bytes.{without_front_blanks};
 ghost use Rattle.hv_model.specs.Line.{IsLine};
 ghost use Rattle.hv_model.specs.Lines.{begins_comment, line_of, line_of_tokens, option_of};
-ghost use Rattle.hv_model.specs.Token.{tokens};
+ghost use Rattle.hv_model.specs.Token.{tokens, word as word_token};
 
 use crate::name::is_option_name;
 use crate::scan::{Token, next_token, skip_blanks};
@@ -40,15 +40,29 @@ fn read_option(text: &[u8]) -> Line<'_>
     }
 }
 
+/// What a line says that begins with this word.
+fn read_words<'a>(word: &[u8], rest: &'a [u8]) -> Line<'a>
+    ensures { IsLine (line_of_tokens (word_token word.now ∷ tokens rest.now)) result }
+{
+    if word == b"rule".as_slice() {
+        Line::Rule(rest)
+    } else if word == b"option".as_slice() {
+        read_option(rest)
+    } else {
+        Line::Bad
+    }
+}
+
 /// What the tokens of a line say.
 fn read_tokens(line: &[u8]) -> Line<'_>
     ensures { IsLine (line_of_tokens (tokens line.now)) result }
 {
-    match next_token(line) {
-        None => Line::Nothing,
-        Some((Token::Word(b"rule"), rest)) => Line::Rule(rest),
-        Some((Token::Word(b"option"), rest)) => read_option(rest),
-        Some(_) => Line::Bad,
+    let Some((token, rest)) = next_token(line) else {
+        return Line::Nothing;
+    };
+    match token {
+        Token::Word(word) => read_words(word, rest),
+        _ => Line::Bad,
     }
 }
 
