@@ -99,7 +99,7 @@ pub record IsGathering (old now : Diagram) (all : Cond) (codes : List (List Step
 list_all-more : (p : Rule → Bool) (codes : List (List Step)) (k : ℕ) (d : List Step) → k < length codes → list_all p (map rule_of (take (k + 1) codes)) ≡ (list_all p (map rule_of (take k codes)) && p (rule_of (get_or codes k d)))
 list_all-more p codes k d lt =
     ap (λ xs. list_all p (map rule_of xs)) (take_more codes k d lt)
-    ∙ (ap (list_all p) map-append
+    ∙ (ap (list_all p) (map-append rule_of (take k codes) (get_or codes k d ∷ []))
     ∙ (list_all-append p (map rule_of (take k codes)) (rule_of (get_or codes k d) ∷ [])
     ∙ ap (λ b. list_all p (map rule_of (take k codes)) && b) (and_true (p (rule_of (get_or codes k d))))))
   where
@@ -127,3 +127,12 @@ gathered old now all codes k g h = λ values. g.meaning values ∙ ap (λ xs. me
 
 pub gathering_start : (store : Diagram) (all : Cond) (codes : List (List Step)) → IsNode store all → ((values : List Bool) → holds store all values ≡ true) → IsGathering store store all codes 0
 gathering_start store all codes n h = record { keeps = Keeps-refl store; node = n; meaning = h }
+
+pub meets_all-false : (values : List Bool) (codes : List (List Step)) (k : ℕ) (d : List Step) → k < length codes → meets values (rule_of (get_or codes k d)) ≡ false → false ≡ meets_all values (map rule_of codes)
+meets_all-false values [] k d lt h = absurd (omega arith)
+meets_all-false values (code ∷ codes) zero d lt h = let e : meets values (rule_of code) ≡ false = h in rw e refl
+meets_all-false values (code ∷ codes) (suc k) d lt h = and_false (meets values (rule_of code)) _ (meets_all-false values codes k d (omega arith) h)
+  where
+    and_false : (a b : Bool) → false ≡ b → false ≡ (a && b)
+    and_false true b e = e
+    and_false false b e = refl

@@ -9,7 +9,9 @@ ghost use Rattle.hv_model.specs.Model.{AllFit, IsModelOf, IsRefusalIn, IsRefusal
 ghost use Rattle.hv_model.specs.Name.{AllOptionNames, is_option_name as option_name};
 ghost use Rattle.hv_model.specs.Rule.{Features, IsValid, is_about, meets_all};
 ghost use Rattle.hv_model.specs.Steps.{fits, rule_of};
-ghost use Rattle.hv_model.specs.Token.{tokens};
+ghost use Rattle.hv_model.specs.Token.{Token, tokens};
+ghost use Rattle.hv_model.specs.Bytes.{without_return};
+ghost use Rattle.hv_model.specs.declared.faults.ModelRefusal.TheVariants.{Bad};
 
 use crate::bytes::next_line;
 use crate::code::Code;
@@ -142,5 +144,111 @@ pub fn valid_cond(model: &Model, store: &mut Store) -> Result<Cond, Memory>
     match conjunction(&model.rules, store) {
         Ok(cond) => Ok(cond),
         Err(_) => Err(Memory),
+    }
+}
+
+/// The refusal for a fault of a line.
+fn bad(line: u64, kind: ModelKind) -> ModelRefusal
+    ensures { result ≡ Bad (record { line = line; kind = kind }) }
+{
+    ModelRefusal::Bad(ModelFault { line, kind })
+}
+
+impl Model {
+    /// Adds the option that the line of this number names.
+    fn add_option(&mut self, name: &[u8], number: u64) -> Result<(), ModelRefusal>
+        requires { IsTrue (option_name name.now) }
+        ensures added { OnOk result ((line : List ℕ) (more : List (List ℕ)) (o : Reading) → line_of line ≡ option_line name.now → Reads self.new (number + 1) more o → Reads self.old number (line ∷ more) o) }
+        ensures refused { IfErr result (λ refusal. (line : List ℕ) (more : List (List ℕ)) → line_of line ≡ option_line name.now → IsRefusalIn (Reads self.old number (line ∷ more)) refusal) }
+    {
+        if self.names.contains(name) {
+            return Err(bad(number, ModelKind::Repeated));
+        }
+        if self.names.len() == MOST_OPTIONS {
+            return Err(bad(number, ModelKind::TooMany));
+        }
+        match self.names.push(name) {
+            Ok(()) => Ok(()),
+            Err(_) => Err(ModelRefusal::Memory),
+        }
+    }
+
+    /// Adds a rule that the line of this number says.
+    fn add_code(&mut self, code: Code, number: u64) -> Result<(), ModelRefusal>
+        requires { list_all (fits (length self.old.names)) code ≡ is_about (length self.old.names) (rule_of code) }
+        ensures added { OnOk result ((line : List ℕ) (ts : List Token) (more : List (List ℕ)) (o : Reading) → line_of line ≡ rule_line ts → IsRule self.old.names ts (rule_of code)
+            → Reads self.new (number + 1) more o → Reads self.old number (line ∷ more) o) }
+        ensures refused { IfErr result (λ refusal. (line : List ℕ) (ts : List Token) (more : List (List ℕ)) → line_of line ≡ rule_line ts → IsRule self.old.names ts (rule_of code)
+            → IsRefusalIn (Reads self.old number (line ∷ more)) refusal) }
+    {
+        if !code.fits(self.names.len()) {
+            return Err(bad(number, ModelKind::Unknown));
+        }
+        match self.rules.push(code) {
+            Ok(()) => Ok(()),
+            Err(_) => Err(ModelRefusal::Memory),
+        }
+    }
+
+    /// Adds the rule with this text, which the line of this number says.
+    fn add_rule(&mut self, text: &[u8], number: u64) -> Result<(), ModelRefusal>
+        ensures added { OnOk result ((line : List ℕ) (more : List (List ℕ)) (o : Reading) → line_of line ≡ rule_line (tokens text.now) → Reads self.new (number + 1) more o → Reads self.old number (line ∷ more) o) }
+        ensures refused { IfErr result (λ refusal. (line : List ℕ) (more : List (List ℕ)) → line_of line ≡ rule_line (tokens text.now) → IsRefusalIn (Reads self.old number (line ∷ more)) refusal) }
+    {
+        match read_rule(*self.rules.allocator(), &self.names, text) {
+            Ok(Some(code)) => self.add_code(code, number),
+            Ok(None) => Err(bad(number, ModelKind::BadLine)),
+            Err(_) => Err(ModelRefusal::Memory),
+        }
+    }
+
+    /// Adds what the line of this number says.
+    fn add_line(&mut self, line: &[u8], number: u64) -> Result<(), ModelRefusal>
+        ensures added { OnOk result ((more : List (List ℕ)) (o : Reading) → Reads self.new (number + 1) more o → Reads self.old number (line.now ∷ more) o) }
+        ensures refused { IfErr result (λ refusal. (more : List (List ℕ)) → IsRefusalIn (Reads self.old number (line.now ∷ more)) refusal) }
+    {
+        match read_line(line) {
+            Line::Nothing => Ok(()),
+            Line::Option(name) => self.add_option(name, number),
+            Line::Rule(text) => self.add_rule(text, number),
+            Line::Bad => Err(bad(number, ModelKind::BadLine)),
+        }
+    }
+
+    /// Whether a configuration is valid.
+    fn has_configuration(&self, alloc: Global) -> Result<bool, Memory>
+        ensures { IfOk result (λ has. MatchBool has ((values : List Bool) × IsValid self.now values) ((values : List Bool) → IsValid self.now values → ⊥)) }
+    {
+        let mut store = Store::new(alloc, self.options() as u32)?;
+        let valid = valid_cond(self, &mut store)?;
+        let first = store.pick(valid)?;
+        Ok(first.is_some())
+    }
+}
+
+/// One carriage return at a line's end is no part of it.
+fn strip_return(line: &[u8]) -> &[u8]
+    ensures { result.now ≡ without_return line.now }
+{
+    line.strip_suffix(b"\r").unwrap_or(line)
+}
+
+/// Reads a model file. The fault is the first one.
+pub fn read_model(alloc: Global, bytes: &[u8]) -> Result<Model, ModelRefusal>
+    ensures accepted { IfOk result (IsModelOf bytes.now) }
+    ensures refused { IfErr result (IsRefusalOf bytes.now) }
+{
+    let mut model = Model::new(alloc);
+    let mut number = 1u64;
+    let mut rest = bytes;
+    while let Some((line, more)) = next_line(rest) {
+        model.add_line(strip_return(line), number)?;
+        number += 1;
+        rest = more;
+    }
+    match model.has_configuration(alloc) {
+        Ok(true) => Ok(model),
+        Ok(false) => Err(bad(0, ModelKind::NoConfiguration)),
+        Err(_) => Err(ModelRefusal::Memory),
     }
 }
