@@ -5,6 +5,7 @@ pub mod Known
 pub mod Limits
 pub mod ListLemmas
 pub mod NameLemmas
+pub mod ReadModel
 pub mod ReadRule
 pub mod Soundness
 pub mod StepLemmas

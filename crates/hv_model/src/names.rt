@@ -1,5 +1,5 @@
 //! The names of a model's options.
-ghost use Rattle.std.specs.Prelude.{◌≡◌, ◌<◌, ◌≤◌, [], Some, slice_get, position, length, OnOk, IsTrue, ◌∷◌, ◌++◌};
+ghost use Rattle.std.specs.Prelude.{◌≡◌, ◌<◌, ◌≤◌, [], Some, slice_get, position, length, OnErr, OnOk, IsTrue, ◌∷◌, ◌++◌};
 ghost use Rattle.std.specs.List.{list_any};
 ghost use Rattle.std.specs.Str.{bytes_eq};
 ghost use Rattle.hv_model.specs.Grammar.{place_of};
@@ -79,7 +79,8 @@ impl Names {
     pub(crate) fn push(&mut self, name: &[u8]) -> Result<(), AllocError>
         requires named { IsTrue (option_name name.now) }
         requires room { length self.old < 256 }
-        ensures { OnOk result (self.new ≡ self.old ++ name.now ∷ []) }
+        ensures added { OnOk result (self.new ≡ self.old ++ name.now ∷ []) }
+        ensures unchanged { OnErr result (self.new ≡ self.old) }
     {
         let Ok(text) = str::from_utf8(name) else {
             unreachable!("an option's name is ASCII");
