@@ -1,5 +1,6 @@
 pub mod BytesLemmas
 pub mod CondLemmas
+pub mod ConfigLemmas
 pub mod Completeness
 pub mod Known
 pub mod Limits

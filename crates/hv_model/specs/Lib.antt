@@ -1,6 +1,7 @@
 pub mod Bytes
 pub mod Codes
 pub mod Conds
+pub mod Config
 pub mod Grammar
 pub mod Known
 pub mod Line

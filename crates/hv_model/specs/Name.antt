@@ -25,3 +25,8 @@ is_option_name name = is_name name && not (starts_with nat_eq name (codes "hv_")
 
 abbrev pub AllOptionNames : List (List ℕ) → Type 0
 AllOptionNames names = All (λ name. IsTrue (is_option_name name)) names
+
+-- no two names are the same
+abbrev pub are_distinct : List (List ℕ) → Bool
+are_distinct [] = true
+are_distinct (name ∷ names) = not (list_any (bytes_eq name) names) && are_distinct names

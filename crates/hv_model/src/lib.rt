@@ -5,6 +5,7 @@
 mod bytes;
 mod code;
 mod conds;
+mod configs;
 mod faults;
 mod lines;
 mod model;
@@ -15,6 +16,7 @@ mod rules;
 mod scan;
 mod stack;
 
+pub use configs::{print_config, read_config};
 pub use faults::{ConfigFault, ModelFault, ModelKind, ModelRefusal};
 pub use model::{Model, is_valid, read_model, valid_cond};
 

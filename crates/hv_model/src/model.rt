@@ -6,7 +6,7 @@ ghost use Rattle.hv_cond.specs.Diagram.{IsNode, Keeps, holds};
 ghost use Rattle.hv_model.specs.Grammar.{IsRule};
 ghost use Rattle.hv_model.specs.Lines.{Reading, Reads, line_of, option_line, rule_line, bad_line};
 ghost use Rattle.hv_model.specs.Model.{AllFit, IsModelOf, IsRefusalIn, IsRefusalOf};
-ghost use Rattle.hv_model.specs.Name.{AllOptionNames, is_option_name as option_name};
+ghost use Rattle.hv_model.specs.Name.{AllOptionNames, are_distinct, is_option_name as option_name};
 ghost use Rattle.hv_model.specs.Rule.{Features, IsValid, is_about, meets_all};
 ghost use Rattle.hv_model.specs.Steps.{fits, rule_of};
 ghost use Rattle.hv_model.specs.Token.{Token, tokens};
@@ -64,6 +64,7 @@ impl Model {
         ensures count { result ≡ length self.now.names }
         ensures limit { result ≤ 256 }
         ensures names { AllOptionNames self.now.names }
+        ensures distinct { IsTrue (are_distinct self.now.names) }
     {
         self.names.len()
     }

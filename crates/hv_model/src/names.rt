@@ -1,9 +1,9 @@
 //! The names of a model's options.
-ghost use Rattle.std.specs.Prelude.{◌≡◌, ◌<◌, ◌≤◌, [], Some, slice_get, position, length, OnErr, OnOk, IsTrue, ◌∷◌, ◌++◌};
+ghost use Rattle.std.specs.Prelude.{◌≡◌, ◌<◌, ◌≤◌, [], false, Some, slice_get, position, length, OnErr, OnOk, IsTrue, ◌∷◌, ◌++◌};
 ghost use Rattle.std.specs.List.{list_any};
 ghost use Rattle.std.specs.Str.{bytes_eq};
 ghost use Rattle.hv_model.specs.Grammar.{place_of};
-ghost use Rattle.hv_model.specs.Name.{AllOptionNames, is_option_name as option_name};
+ghost use Rattle.hv_model.specs.Name.{AllOptionNames, are_distinct, is_option_name as option_name};
 
 use std::alloc::{AllocError, Global};
 
@@ -19,13 +19,14 @@ pub(crate) struct Names {
 impl std::marker::Model for Names {
     ghost use Rattle.std.specs.Prelude.{ℕ, List, map, length, ◌≤◌};
     ghost use Rattle.std.specs.String.{string_bytes};
-    ghost use Rattle.hv_model.specs.Name.{AllOptionNames};
+    ghost use Rattle.std.specs.Prelude.{IsTrue};
+    ghost use Rattle.hv_model.specs.Name.{AllOptionNames, are_distinct};
 
     ghost Value = { List (List ℕ) };
 
     ghost view = { λ m. map string_bytes m.names.items };
 
-    ghost invariant = { λ m. AllOptionNames (map string_bytes m.names.items) × (length m.names.items ≤ 256) };
+    ghost invariant = { λ m. AllOptionNames (map string_bytes m.names.items) × (length m.names.items ≤ 256) × IsTrue (are_distinct (map string_bytes m.names.items)) };
 }
 
 impl Names {
@@ -41,6 +42,7 @@ impl Names {
         ensures count { result ≡ length self.now }
         ensures limit { result ≤ 256 }
         ensures names { AllOptionNames self.now }
+        ensures distinct { IsTrue (are_distinct self.now) }
     {
         self.names.len()
     }
@@ -79,6 +81,7 @@ impl Names {
     pub(crate) fn push(&mut self, name: &[u8]) -> Result<(), AllocError>
         requires named { IsTrue (option_name name.now) }
         requires room { length self.old < 256 }
+        requires fresh { list_any (bytes_eq name.now) self.old ≡ false }
         ensures added { OnOk result (self.new ≡ self.old ++ name.now ∷ []) }
         ensures unchanged { OnErr result (self.new ≡ self.old) }
     {
