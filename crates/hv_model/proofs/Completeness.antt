@@ -82,9 +82,9 @@ Goes names or ts r = (p : Bool) (outer : List Frame) (items : List Item) (rest :
     → run names (want (frame 0 false false p) outer items) (ts ++ rest) ≡ run names (have (frame 0 false false p) outer (value r ∷ items)) rest
 Goes names expr ts r =
     ((outer : List Frame) (items : List Item) (rest : List Token) → Ends rest
-        → run names (want (frame 0 false false false) outer items) (ts ++ rest) ≡ run names (have (frame 0 false false false) outer (value r ∷ items)) rest)
+    → run names (want (frame 0 false false false) outer items) (ts ++ rest) ≡ run names (have (frame 0 false false false) outer (value r ∷ items)) rest)
     × ((q : Rule) (qs : List Rule) (outer : List Frame) (items : List Item) (rest : List Token) → Ends rest
-        → run names (want (frame 0 false false true) outer (premises q qs ∷ items)) (ts ++ rest) ≡ run names (have (frame 0 false false true) outer (value r ∷ premises q qs ∷ items)) rest)
+    → run names (want (frame 0 false false true) outer (premises q qs ∷ items)) (ts ++ rest) ≡ run names (have (frame 0 false false true) outer (value r ∷ premises q qs ∷ items)) rest)
 
 pub negated_more : (n : ℕ) (items : List Item) → negated_times (n + 1) items ≡ negated_times (suc n) items
 negated_more n items = ap (λ k. negated_times k items) (add-one n)
@@ -95,18 +95,18 @@ named names name h f outer items rest = rw h refl
 goes : {names : List (List ℕ)} {phrase : Phrase} {ts : List Token} {r : Rule} → Derives names phrase ts r → Goes names phrase ts r
 goes {names} (expr_or d) =
     (λ outer items rest h. goes d false outer items rest (Ends-NotBoth rest h), λ q qs outer items rest h. goes d true outer (premises q qs ∷ items) rest (Ends-NotBoth rest h))
-goes {names} (expr_implies {ts} {us} {r} {s} d e) =
-    ( λ outer items rest h.
+goes {names} (expr_implies {ts} {us} {r} {s} d e) = (
+  λ outer items rest h.
       ap (run names (want (frame 0 false false false) outer items)) (append_assoc ts (implies ∷ us) rest)
       ∙ (goes d false outer items (implies ∷ us ++ rest) tt
       ∙ ((goes e).1 r [] outer items rest h
-      ∙ implies_settled names outer items r s rest h))
-    , λ q qs outer items rest h.
+      ∙ implies_settled names outer items r s rest h)),
+  λ q qs outer items rest h.
       ap (run names (want (frame 0 false false true) outer (premises q qs ∷ items))) (append_assoc ts (implies ∷ us) rest)
       ∙ (goes d true outer (premises q qs ∷ items) (implies ∷ us ++ rest) tt
       ∙ ((goes e).1 r (q ∷ qs) outer items rest h
-      ∙ implies_chained names outer items q qs r s rest h))
-    )
+      ∙ implies_chained names outer items q qs r s rest h)),
+)
 goes {names} (or_and d) = λ p outer items rest h. goes d false p outer items rest
 goes {names} (or_either {ts} {us} {r} {s} d e) = λ p outer items rest h.
     ap (run names (want (frame 0 false false p) outer items)) (append_assoc ts (either ∷ us) rest)

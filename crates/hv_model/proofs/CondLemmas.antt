@@ -116,10 +116,10 @@ gathering_step old mid one now all cond both codes k code g lt is k1 e k2 n f =
       keeps = Keeps-trans g.keeps (Keeps-trans k1 k2);
       node = n;
       meaning = λ values.
-      f values
-      ∙ (ap (λ (b : Bool). b && holds one cond values) (k1.meaning all g.node values ∙ g.meaning values)
-      ∙ (ap (λ (b : Bool). meets_all values (map rule_of (take k codes)) && b) (e values ∙ ap (λ c. meets values (rule_of c)) is)
-      ∙ sym (list_all-more (meets values) codes k code lt)));
+          f values
+          ∙ (ap (λ (b : Bool). b && holds one cond values) (k1.meaning all g.node values ∙ g.meaning values)
+          ∙ (ap (λ (b : Bool). meets_all values (map rule_of (take k codes)) && b) (e values ∙ ap (λ c. meets values (rule_of c)) is)
+          ∙ sym (list_all-more (meets values) codes k code lt)));
     }
 
 pub gathered : (old now : Diagram) (all : Cond) (codes : List (List Step)) (k : ℕ) → IsGathering old now all codes k → length codes ≤ k → (values : List Bool) → holds now all values ≡ meets_all values (map rule_of codes)

@@ -103,9 +103,10 @@ pub printed_on : (names : List (List ℕ)) (on : List Bool) (i : ℕ) (name text
     → slice_get on i ≡ Some true → slice_get names i ≡ Some name → now ≡ cond first (text ++ name) (text ++ 44 ∷ name)
     → (now ≡ text_of (take (i + 1) names) (take (i + 1) on)) × (false ≡ is_none (names_on (take (i + 1) names) (take (i + 1) on)))
 printed_on names on i name text now first h lt n e f g =
-    let more = more_on names on i name true lt n e f in
-    ( g ∙ (joined (names_on (take i names) (take i on)) name text first h.0 h.1 ∙ sym (ap (join_with_byte 44) more))
-    , some_more (names_on (take i names) (take i on)) name ∙ sym (ap is_none more) )
+    let more = more_on names on i name true lt n e f in (
+      g ∙ (joined (names_on (take i names) (take i on)) name text first h.0 h.1 ∙ sym (ap (join_with_byte 44) more)),
+      some_more (names_on (take i names) (take i on)) name ∙ sym (ap is_none more),
+    )
 
 pub get_or-slice_get : {X : Type 0} (xs : List X) (i : ℕ) (d : X) → i < length xs → slice_get xs i ≡ Some (get_or xs i d)
 get_or-slice_get [] i d h = absurd (omega arith)
@@ -173,7 +174,7 @@ read_back_from done (name ∷ names) before (true ∷ on) n b o d =
     ∙ (ap (λ v. cond v (repeated n) (config_from (done ++ name ∷ names) (set (before ++ false ∷ all_off names) (length before) true) (n + 1) (names_on names on))) (get_or-append_seam before false (all_off names) false)
     ∙ (ap (λ vs. config_from (done ++ name ∷ names) vs (n + 1) (names_on names on)) (set-append_seam before false (all_off names) true)
     ∙ rw (one_more done name names, one_more before true (all_off names), one_more before true on)
-      (read_back_from (done ++ name ∷ []) names (before ++ true ∷ []) on (n + 1) (omega (arith, length-append before (true ∷ []), length-append done (name ∷ []))) (omega arith) (rw (one_more done name names) at d)))))
+    (read_back_from (done ++ name ∷ []) names (before ++ true ∷ []) on (n + 1) (omega (arith, length-append before (true ∷ []), length-append done (name ∷ []))) (omega arith) (rw (one_more done name names) at d)))))
   where
     taken_at : position (bytes_eq name) (done ++ name ∷ names) ≡ Some (length done) → config_from (done ++ name ∷ names) (before ++ false ∷ all_off names) n (name ∷ names_on names on)
         ≡ cond (get_or (before ++ false ∷ all_off names) (length done) false) (repeated n) (config_from (done ++ name ∷ names) (set (before ++ false ∷ all_off names) (length done) true) (n + 1) (names_on names on))
@@ -194,11 +195,12 @@ name_bytes_no_comma (byte ∷ bytes) e =
 
 name_no_comma : (name : List ℕ) → is_name name ≡ true → (0 < length name) × All (λ byte. is_comma byte ≡ false) name
 name_no_comma [] e = cc
-name_no_comma (byte ∷ bytes) e =
-    ( omega arith
-    , All-cons (λ b. is_comma b ≡ false) byte bytes
+name_no_comma (byte ∷ bytes) e = (
+  omega arith,
+  All-cons (λ b. is_comma b ≡ false) byte bytes
       (letter_no_comma byte (and_left _ (list_all (λ b. is_letter b || is_digit b) bytes) e))
-      (name_bytes_no_comma bytes (and_right (is_letter byte) _ e)) )
+      (name_bytes_no_comma bytes (and_right (is_letter byte) _ e)),
+)
 
 -- texts that are not empty and have no comma
 abbrev AreClean : List (List ℕ) → Type 0
@@ -208,9 +210,10 @@ AreClean (x ∷ xs) = ((0 < length x) × All (λ byte. is_comma byte ≡ false) 
 clean_names_on : (names : List (List ℕ)) (on : List Bool) → AllOptionNames names → AreClean (names_on names on)
 clean_names_on [] on h = tt
 clean_names_on (name ∷ names) [] h = tt
-clean_names_on (name ∷ names) (true ∷ on) h =
-    ( name_no_comma name (and_left (is_name name) _ (and_left _ _ (h 0 [] (omega arith))))
-    , clean_names_on names on (λ k d lt. h (suc k) d (omega arith)) )
+clean_names_on (name ∷ names) (true ∷ on) h = (
+  name_no_comma name (and_left (is_name name) _ (and_left _ _ (h 0 [] (omega arith)))),
+  clean_names_on names on (λ k d lt. h (suc k) d (omega arith)),
+)
 clean_names_on (name ∷ names) (false ∷ on) h = clean_names_on names on (λ k d lt. h (suc k) d (omega arith))
 
 split_joined : (p : List ℕ) (ps : List (List ℕ)) → AreClean (p ∷ ps) → slice_split is_comma (join_with_byte 44 (p ∷ ps)) ≡ p ∷ ps

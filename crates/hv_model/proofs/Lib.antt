@@ -8,6 +8,7 @@ pub mod ListLemmas
 pub mod NameLemmas
 pub mod ReadModel
 pub mod ReadRule
+mod Rows
 pub mod Soundness
 pub mod StepLemmas
 pub mod TokenLemmas

@@ -23,8 +23,8 @@ mutual
   limited_want names (open_ ∷ ts) f outer items =
       elim (nat_lt (length outer) 256) as (λ b. option_and_then (λ next. limited_run names next ts) (cond b (Some (want (frame 0 false false false) (f ∷ outer) items)) None) ≡ cond (b && is_shallow (length outer + 1) 0 ts) (run names (want (frame 0 false false false) (f ∷ outer) items) ts) None) [
         | true ↦
-          limited_want names ts (frame 0 false false false) (f ∷ outer) items
-          ∙ ap (λ k. cond (is_shallow k 0 ts) (run names (want (frame 0 false false false) (f ∷ outer) items) ts) None) (sym (add-one (length outer)))
+            limited_want names ts (frame 0 false false false) (f ∷ outer) items
+            ∙ ap (λ k. cond (is_shallow k 0 ts) (run names (want (frame 0 false false false) (f ∷ outer) items) ts) None) (sym (add-one (length outer)))
         | false ↦ refl
       ]
   limited_want names (negate ∷ ts) f outer items =

@@ -39,14 +39,18 @@ fits-more n k le (step ∷ steps) h =
     left : (a b : Bool) → (a && b) ≡ true → a ≡ true
     left true b e = refl
     left false b e = e
+
     right : (a b : Bool) → (a && b) ≡ true → b ≡ true
     right true b e = e
     right false b e = cc
+
     both : (a b : Bool) → a ≡ true → b ≡ true → (a && b) ≡ true
     both true b e f = f
     both false b e f = e
+
     below : (i : ℕ) → nat_lt i n ≡ true → nat_lt i k ≡ true
     below i h = grind (arith, nat_tests)
+
     one : (step : Step) → fits n step ≡ true → fits k step ≡ true
     one (OptionStep i) h = below i h
     one Not h = refl

@@ -134,7 +134,10 @@ filled (behind_negate c) {us} {s} d =
     let f = filled c (not_negate d) in
     let n : negated_times (negations_of c + 1) (value s ∷ below c) ≡ negated_times (suc (negations_of c)) (value s ∷ below c) = negated_more (negations_of c) (value s ∷ below c) in
     record {
-      around = f.around; tokens = f.tokens; rule = f.rule; derived = f.derived;
+      around = f.around;
+      tokens = f.tokens;
+      rule = f.rule;
+      derived = f.derived;
       spell = spell_one (spelled c) us negate ∙ f.spell;
       machine = ap (λ stack. have (frame 0 false (disjunct_of c) (is_some_rule (premises_of c))) (outer_of c) (cond (conjunct_of c) (conjoined stack) stack)) n ∙ f.machine;
     }
@@ -174,14 +177,20 @@ closes_at outermost m d h = cc
 closes_at {names} (in_parens c) {us} {s} m d h =
     let f = filled c (not_parens d) in
     record {
-      around = f.around; tokens = f.tokens; rule = f.rule; derived = f.derived;
+      around = f.around;
+      tokens = f.tokens;
+      rule = f.rule;
+      derived = f.derived;
       spell = spell_one (spelled c) (us ++ close ∷ []) open_ ∙ f.spell;
       machine = sym (some-some h) ∙ f.machine;
     }
 closes_at {names} (behind_implies {ts} {r = q} c e) {us} {s} m d h =
     let f = closes_at c m (expr_implies e d) (ap (λ x. after_close (outer_of c) (value x ∷ below c)) (sym (concluded_more q (premises_of c) s)) ∙ h) in
     record {
-      around = f.around; tokens = f.tokens; rule = f.rule; derived = f.derived;
+      around = f.around;
+      tokens = f.tokens;
+      rule = f.rule;
+      derived = f.derived;
       spell = spell_more (spelled c) ts (us ++ close ∷ []) implies ∙ (ap (λ x. spelled c ++ x) (sym (append_assoc ts (implies ∷ us) (close ∷ []))) ∙ f.spell);
       machine = f.machine;
     }
@@ -215,7 +224,10 @@ closing {names} ts c {us} {s} d r h =
     let next = then_some (λ next. run names next ts) (after_close (outer_of c) (value (concluded_all (premises_of c) s) ∷ below c)) r h in
     let f = closes_at c next.0 d next.1 in
     record {
-      around = f.around; tokens = f.tokens; rule = f.rule; derived = f.derived;
+      around = f.around;
+      tokens = f.tokens;
+      rule = f.rule;
+      derived = f.derived;
       spell = sym (append_assoc (spelled f.around) f.tokens ts) ∙ (ap (λ x. x ++ ts) (sym f.spell) ∙ (append_assoc (spelled c) (us ++ close ∷ []) ts ∙ ap (λ x. spelled c ++ x) (append_assoc us (close ∷ []) ts)));
       runs = ap (λ m. run names m ts) (sym f.machine) ∙ next.2;
     }
@@ -228,11 +240,11 @@ mutual
   wanting {names} (word name ∷ ts) c r h =
       elim (is_name name) as (λ b. is_name name ≡ b → option_and_then (λ next. run names next ts) (cond b (Some (completed (frame_of c) (outer_of c) (value (option (place_of names name)) ∷ below c))) None) ≡ Some r → Derives names expr (spelled c ++ word name ∷ ts) r) [
         | true ↦ λ e g.
-          let named : Derives names not (word name ∷ []) (option (place_of names name)) = not_name name e in
-          let f = filled c named in
-          let next : run names (has_at f.around f.rule) ts ≡ Some r = ap (λ m. run names m ts) (sym f.machine) ∙ g in
-          respelled names r (sym (append_assoc (spelled f.around) f.tokens ts) ∙ (ap (λ x. x ++ ts) (sym f.spell) ∙ append_assoc (spelled c) (word name ∷ []) ts))
-          (having ts f.around f.derived r next)
+            let named : Derives names not (word name ∷ []) (option (place_of names name)) = not_name name e in
+            let f = filled c named in
+            let next : run names (has_at f.around f.rule) ts ≡ Some r = ap (λ m. run names m ts) (sym f.machine) ∙ g in
+            respelled names r (sym (append_assoc (spelled f.around) f.tokens ts) ∙ (ap (λ x. x ++ ts) (sym f.spell) ∙ append_assoc (spelled c) (word name ∷ []) ts))
+            (having ts f.around f.derived r next)
         | false ↦ λ e g. none_some g
       ] refl h
   wanting (implies ∷ ts) c r h = none_some h

@@ -24,9 +24,9 @@ pub data ConfigReading : Type 0 where
 abbrev pub config_from : List (List ℕ) → List Bool → ℕ → List (List ℕ) → ConfigReading
 config_from names on n [] = config on
 config_from names on n (piece ∷ more) = elim (position (bytes_eq piece) names) [
-    | None ↦ unknown n
-    | Some i ↦ cond (slice_index_or on i false) (repeated n) (config_from names (slice_set on i true) (n + 1) more)
-    ]
+  | None ↦ unknown n
+  | Some i ↦ cond (slice_index_or on i false) (repeated n) (config_from names (slice_set on i true) (n + 1) more)
+]
 
 abbrev pub config_of : List (List ℕ) → List ℕ → ConfigReading
 config_of names text = config_from names (map (λ _. false) names) 0 (pieces_of text)

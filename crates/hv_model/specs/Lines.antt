@@ -12,8 +12,8 @@ use Rattle.hv_model.specs.declared.faults.ModelKind.TheVariants.{BadLine, Repeat
 
 pub data Line : Type 0 where
   nothing : Line
-  option_line : List ℕ → Line       -- with the option's name
-  rule_line : List Token → Line     -- with what stands behind `rule`
+  option_line : List ℕ → Line  -- with the option's name
+  rule_line : List Token → Line  -- with what stands behind `rule`
   bad_line : Line
 
 abbrev pub begins_comment : List ℕ → Bool

@@ -5,14 +5,14 @@ use Rattle.hv_model.specs.Bytes.{is_blank}
 use Rattle.hv_model.specs.Name.{is_letter, is_digit}
 
 pub data Token : Type 0 where
-  implies : Token          -- =>
-  either : Token           -- ||
-  both : Token             -- &&
-  negate : Token           -- !
-  open_ : Token            -- (
-  close : Token            -- )
-  word : List ℕ → Token    -- letters, digits and `_`, as many as stand side by side
-  other : Token            -- a byte that begins none of these
+  implies : Token  -- =>
+  either : Token  -- ||
+  both : Token  -- &&
+  negate : Token  -- !
+  open_ : Token  -- (
+  close : Token  -- )
+  word : List ℕ → Token  -- letters, digits and `_`, as many as stand side by side
+  other : Token  -- a byte that begins none of these
 
 -- what a word is made of
 abbrev pub is_word_byte : ℕ → Bool

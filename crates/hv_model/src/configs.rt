@@ -30,7 +30,12 @@ fn next_piece(text: &[u8]) -> (&[u8], Option<&[u8]>)
 }
 
 /// Turns the option on that a piece names.
-fn take_piece(model: &Model, on: &mut Vec<bool>, piece: &[u8], number: u64) -> Result<(), ConfigFault>
+fn take_piece(
+    model: &Model,
+    on: &mut Vec<bool>,
+    piece: &[u8],
+    number: u64,
+) -> Result<(), ConfigFault>
     requires { length on.old.items ≡ length model.now.names }
     ensures taken { OnOk result ((more : List (List ℕ)) → config_from model.now.names on.old.items number (piece.now ∷ more) ≡ config_from model.now.names on.new.items (number + 1) more) }
     ensures refused { IfErr result (λ fault. (more : List (List ℕ)) → IsConfigFault (config_from model.now.names on.old.items number (piece.now ∷ more)) fault) }

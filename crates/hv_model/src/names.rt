@@ -59,7 +59,9 @@ impl Names {
     pub(crate) fn position(&self, name: &[u8]) -> Option<usize>
         ensures { result ≡ position (bytes_eq name.now) self.now }
     {
-        self.names.iter().position(|option| name == option.as_bytes())
+        self.names
+            .iter()
+            .position(|option| name == option.as_bytes())
     }
 
     /// The number of the option of this name, or the number after the last.

@@ -166,7 +166,11 @@ impl Parser {
         ensures items { OnOk result (items_of self.new.code ≡ (if self.old.top.premise then supposed_too (items_of self.old.code) else supposed (items_of self.old.code))) }
         ensures outer { OnOk result (self.new.outer.items ≡ self.old.outer.items) }
     {
-        let step = if self.top.premise { Step::SupposeToo } else { Step::Suppose };
+        let step = if self.top.premise {
+            Step::SupposeToo
+        } else {
+            Step::Suppose
+        };
         self.code.operate_if(true, step)
     }
 

@@ -18,7 +18,7 @@ pub returns-in_err-add_line-clause-refused : goal.returns-in_err-add_line-clause
 returns-in_err-add_line-clause-refused c =
     let p = err_from_is_err_and c.from_residual.result c.from_residual.ensures.1 in
     rw (p.1, p.2) (refused_line c.args.bytes.now c.loop-line.rest.now c.in-Some.more.now c.in-Some.line.now c.strip_return.result.now c.loop-line.model c.loop-line.number c.in_err-add_line.field-0.0
-      c.loop-line.invariant.0 c.in-Some.ensures.some c.strip_return.ensures (c.in_err-add_line.ensures.refused (lines_of c.in-Some.more.now)))
+    c.loop-line.invariant.0 c.in-Some.ensures.some c.strip_return.ensures (c.in_err-add_line.ensures.refused (lines_of c.in-Some.more.now)))
 
 ended : (rest : List ℕ) → rest ≡ [] → lines_of rest ≡ []
 ended rest e = ap lines_of e

@@ -25,5 +25,5 @@ returns-clause-meaning c =
     (λ values. not (holds c.args.store.now c.in-Some.left values) || holds c.args.store.now c.in-Some.right values)
     (Keeps-trans c.in_ok-opposite.ensures.keeps c.in_ok-implied.ensures.keeps) (rw c.in-Some.ensures at c.requires).1.1
     (implied_meaning c.args.store.now c.not.new.self c.or.new.self c.in-Some.left c.in-Some.right c.in_ok-opposite.opposite c.in_ok-implied.implied c.in_ok-opposite.ensures.keeps
-      (rw c.in-Some.ensures at c.requires).0 c.in_ok-opposite.ensures.meaning c.in_ok-implied.ensures.meaning)
+    (rw c.in-Some.ensures at c.requires).0 c.in_ok-opposite.ensures.meaning c.in_ok-implied.ensures.meaning)
     c.push.ensures)

@@ -17,8 +17,8 @@ returns-clause-added c =
     let about = rw (← c.self.view_is) at c.requires in
     elim c.match-push.branch [
       | in-Ok w ↦
-        rw (w.result-is, ← c.self.view_is)
-        (λ line ts more o e r h. rule_added c.self.inside.names c.self.inside.rules.items c.push.new.self.items c.args.code c.args.number line ts more o w.in-Ok.ensures.items
-        (sym about ∙ (ap (λ n. list_all (fits n) c.args.code) (sym c.len.ensures.count) ∙ (sym c.fits.ensures ∙ c.if-not-fits.false))) e r h)
+          rw (w.result-is, ← c.self.view_is)
+          (λ line ts more o e r h. rule_added c.self.inside.names c.self.inside.rules.items c.push.new.self.items c.args.code c.args.number line ts more o w.in-Ok.ensures.items
+          (sym about ∙ (ap (λ n. list_all (fits n) c.args.code) (sym c.len.ensures.count) ∙ (sym c.fits.ensures ∙ c.if-not-fits.false))) e r h)
       | in-Err w ↦ rw w.result-is tt
     ]

@@ -20,9 +20,11 @@ kept : (ok : Bool) (items now : List (String Global)) (option : String Global) �
     → list_any (bytes_eq (string_bytes option)) (map string_bytes items) ≡ false
     → AllOptionNames (map string_bytes now) × (length now ≤ 256) × IsTrue (are_distinct (map string_bytes now))
 kept true items now option e all distinct room named fresh =
-    rw e ( rw map-append (All-push (λ name. IsTrue (is_option_name name)) (map string_bytes items) (string_bytes option) all named)
-         , omega (arith, length-append items (option ∷ []))
-         , rw map-append (are_distinct-push (map string_bytes items) (string_bytes option) distinct fresh) )
+    rw e (
+      rw map-append (All-push (λ name. IsTrue (is_option_name name)) (map string_bytes items) (string_bytes option) all named),
+      omega (arith, length-append items (option ∷ [])),
+      rw map-append (are_distinct-push (map string_bytes items) (string_bytes option) distinct fresh),
+    )
 kept false items now option e all distinct room named fresh = rw e (all, omega arith, distinct)
 
 pub invariant_of-self : goal.invariant_of-self
