@@ -6,6 +6,7 @@ pub mod Known
 pub mod Limits
 pub mod ListLemmas
 pub mod NameLemmas
+pub mod OneReading
 pub mod ReadModel
 pub mod ReadRule
 mod Rows
