@@ -1,11 +1,8 @@
 -- Lines and words, taken off the front of a text one by one.
-use Rattle.std.proofs.Common.{◌≡◌, ℕ, zero, suc, ◌+◌, ◌<◌, ◌≤◌, Bool, true, false, not, List, [], ◌∷◌, cond, refl, sym, ◌∙◌, ap, arith, length, take, drop, filter, get_or, drop-cons, add-one, ◌⊎◌, inl, inr}
-use Rattle.std.specs.List.{slice_split, onto_first, prefix_len, position_or_len}
-use Rattle.std.proofs.lemmas.Bool.{not-false, cases_lt}
-use Rattle.std.proofs.lemmas.List.{take_all, length-take-le}
-use Rattle.std.proofs.lemmas.List.Sums.{prefix_len_stops, prefix_len-le-length}
-use Rattle.hv_model.specs.Bytes.{is_newline, is_empty, counted_lines, without_return}
-use Rattle.hv_model.proofs.ListLemmas.{slice_split_front, slice_split_whole, slice_split-some, drop-past}
+use Rattle.std.proofs.Common.{◌≡◌, ℕ, ◌+◌, ◌<◌, ◌≤◌, List, [], ◌∷◌, refl, ◌∙◌, ap, arith, length, take, drop}
+use Rattle.std.specs.List.{slice_split, position_or_len}
+use Rattle.hv_model.specs.Bytes.{is_newline, counted_lines, without_return}
+use Rattle.hv_model.proofs.ListLemmas.{slice_split_front, slice_split_whole, slice_split-some}
 
 counted_lines-cons : (line : List ℕ) (parts : List (List ℕ)) → 0 < length parts → counted_lines (line ∷ parts) ≡ without_return line ∷ counted_lines parts
 counted_lines-cons line [] h = absurd (omega arith)

@@ -1,11 +1,10 @@
 -- The machine reads what the grammar derives.
-use Rattle.std.proofs.Common.{◌≡◌, ℕ, zero, suc, ◌+◌, Bool, true, false, cond, List, [], ◌∷◌, ◌++◌, refl, sym, ap, ◌∙◌, append_assoc, add-one, Option, Some}
+use Rattle.std.proofs.Common.{◌≡◌, ℕ, suc, ◌+◌, Bool, true, false, cond, List, [], ◌∷◌, ◌++◌, refl, sym, ap, ◌∙◌, append_assoc, add-one, Some}
 use Rattle.std.proofs.lemmas.List.{append-nil}
-use Rattle.std.specs.Prelude.{IsTrue}
 use Rattle.hv_model.specs.Grammar.{Phrase, expr, or, and, not, Derives, expr_or, expr_implies, or_and, or_either, and_not, and_both, not_negate, not_parens, not_name, place_of}
-use Rattle.hv_model.specs.Machine.{Machine, frame, want, have, start, negated_times, completed, run}
+use Rattle.hv_model.specs.Machine.{frame, want, have, start, negated_times, completed, run}
 use Rattle.hv_model.specs.Name.{is_name}
-use Rattle.hv_model.specs.Rule.{Rule, option, negation, conjunction, disjunction, implication}
+use Rattle.hv_model.specs.Rule.{Rule, option, disjunction, implication}
 use Rattle.hv_model.specs.Steps.{Item, value, premises, conjoined}
 use Rattle.hv_model.specs.Token.{Token, implies, either, both, negate, open_, close, word, other}
 use Rattle.hv_model.specs.declared.parser.Frame.{Frame}

@@ -1,7 +1,7 @@
 -- Texts of configurations.
-use Rattle.std.proofs.Common.{◌≡◌, ℕ, zero, suc, ◌+◌, ◌<◌, ◌≤◌, Bool, true, false, ◌&&◌, ◌||◌, not, List, [], ◌∷◌, ◌++◌, cond, refl, sym, ◌∙◌, ap, subst, arith, length, take, get_or, set, map, add-one, append_assoc, length-append, Option, Some, None, replicate}
-use Rattle.std.specs.Prelude.{nat_lt, IsTrue, slice_get, slice_set}
-use Rattle.std.specs.List.{All, list_all, list_any, position, position_or_len, slice_split, join_with_byte, slice_index_or}
+use Rattle.std.proofs.Common.{◌≡◌, ℕ, zero, suc, ◌+◌, ◌<◌, ◌≤◌, Bool, true, false, ◌&&◌, ◌||◌, not, List, [], ◌∷◌, ◌++◌, cond, refl, sym, ◌∙◌, ap, arith, length, take, get_or, set, map, add-one, append_assoc, length-append, Option, Some, replicate}
+use Rattle.std.specs.Prelude.{nat_lt, slice_get}
+use Rattle.std.specs.List.{All, list_all, list_any, position, position_or_len, slice_split, join_with_byte}
 use Rattle.std.specs.Str.{bytes_eq}
 use Rattle.std.specs.Borrow.{Bor}
 use Rattle.std.proofs.Math.Seq.{get_or-append_seam, set-append_seam}
@@ -10,9 +10,9 @@ use Rattle.std.proofs.lemmas.List.{take_all}
 use Rattle.std.proofs.lemmas.List.Elements.{All-cons}
 use Rattle.std.proofs.lemmas.List.Splits.{slice_split_at, slice_split_none}
 use Rattle.std.proofs.lemmas.Slice.Eq.{bytes_eq-Decides}
-use Rattle.hv_model.specs.Config.{ConfigReading, config, unknown, repeated, config_from, config_of, is_comma, names_on, pieces_in, pieces_of, rest_len, text_of, IsConfigFault}
+use Rattle.hv_model.specs.Config.{ConfigReading, config, repeated, config_from, config_of, is_comma, names_on, pieces_of, rest_len, text_of, IsConfigFault}
 use Rattle.hv_model.specs.declared.faults.ConfigFault.{ConfigFault}
-use Rattle.hv_model.specs.Name.{is_letter, is_digit, is_name, is_option_name, AllOptionNames, are_distinct}
+use Rattle.hv_model.specs.Name.{is_letter, is_digit, is_name, AllOptionNames, are_distinct}
 
 abbrev pub is_none : List (List ℕ) → Bool
 is_none [] = true

@@ -1,14 +1,14 @@
 -- Whether the names of a rule are options.
-use Rattle.std.proofs.Common.{◌≡◌, ℕ, zero, suc, ◌+◌, Bool, true, false, ◌&&◌, List, [], ◌∷◌, ◌++◌, cond, refl, sym, ◌∙◌, ap, fold, Option as Maybe, Some, None}
+use Rattle.std.proofs.Common.{◌≡◌, ℕ, zero, suc, ◌+◌, Bool, true, false, ◌&&◌, List, [], ◌∷◌, cond, refl, sym, ◌∙◌, ap, fold, Option as Maybe, Some, None}
 use Rattle.std.specs.Prelude.{nat_lt}
 use Rattle.std.specs.List.{list_all}
 use Rattle.std.proofs.lemmas.List.Folds.{list_all-append}
-use Rattle.hv_model.specs.Grammar.{Phrase, expr, Derives, expr_or, expr_implies, or_and, or_either, and_not, and_both, not_negate, not_parens, not_name, place_of}
+use Rattle.hv_model.specs.Grammar.{Phrase, Derives, expr_or, expr_implies, or_and, or_either, and_not, and_both, not_negate, not_parens, not_name, place_of}
 use Rattle.hv_model.specs.Known.{is_known}
-use Rattle.hv_model.specs.Machine.{Machine, frame, want, have, negated_times, completed, step, or_done, expr_done, limited_step, is_allowed}
+use Rattle.hv_model.specs.Machine.{Machine, frame, want, negated_times, completed, step, or_done, expr_done, limited_step, is_allowed}
 use Rattle.hv_model.specs.Name.{is_name}
-use Rattle.hv_model.specs.Rule.{Rule, option, negation, conjunction, disjunction, implication, is_about}
-use Rattle.hv_model.specs.Steps.{Item, value, premises, all_of, rule_in, concluded, implied, added, conjoined, disjoined, negated, supposed, supposed_too, closed, after, items_of, fits}
+use Rattle.hv_model.specs.Rule.{Rule, option, implication, is_about}
+use Rattle.hv_model.specs.Steps.{Item, value, premises, all_of, rule_in, concluded, conjoined, disjoined, negated, supposed, supposed_too, closed, after, items_of, fits}
 use Rattle.hv_model.specs.Token.{Token, implies, either, both, negate, open_, close, word, other}
 use Rattle.hv_model.specs.declared.code.Step.{Step}
 use Rattle.hv_model.specs.declared.code.Step.TheVariants.{Option, Not, And, Or, Suppose, SupposeToo, Conclude}

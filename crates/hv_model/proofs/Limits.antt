@@ -1,12 +1,12 @@
 -- The machine under the limits, and the height of its stack.
 use Rattle.std.proofs.Common.{◌≡◌, ℕ, zero, suc, ◌+◌, ◌-◌, ◌*◌, ◌<◌, ◌≤◌, Bool, true, false, ◌&&◌, List, [], ◌∷◌, cond, refl, sym, ◌∙◌, ap, subst, arith, length, Option, Some, None, add-one}
-use Rattle.std.specs.Prelude.{nat_lt, IsTrue, option_and_then}
+use Rattle.std.specs.Prelude.{nat_lt, option_and_then}
 use Rattle.std.proofs.lemmas.Bool.Decides.{nat_tests}
 use Rattle.hv_model.specs.Grammar.{IsRule, is_shallow, place_of}
-use Rattle.hv_model.specs.Machine.{Machine, frame, want, have, start, negated_times, completed, run, step, finished, or_done, expr_done, after_close, is_allowed, limited_step, limited_run}
+use Rattle.hv_model.specs.Machine.{Machine, frame, want, have, start, negated_times, completed, run, or_done, expr_done, limited_step, limited_run}
 use Rattle.hv_model.specs.Name.{is_name}
 use Rattle.hv_model.specs.Rule.{Rule, option}
-use Rattle.hv_model.specs.Steps.{Item, value, premises, conjoined, disjoined, negated, supposed, supposed_too, closed, added, implied}
+use Rattle.hv_model.specs.Steps.{Item, value, conjoined, disjoined, negated, supposed, supposed_too, closed}
 use Rattle.hv_model.specs.Token.{Token, implies, either, both, negate, open_, close, word, other}
 use Rattle.hv_model.specs.declared.parser.Frame.{Frame}
 use Rattle.hv_model.proofs.Completeness.{run_derived}

@@ -1,11 +1,10 @@
 -- A model file says one thing.
-use Rattle.std.proofs.Common.{◌≡◌, ℕ, ◌+◌, ◌<◌, Bool, true, false, List, [], ◌∷◌, ◌++◌, refl, sym, ◌∙◌, ap, subst, arith, length}
-use Rattle.std.specs.Prelude.{IsTrue, Some}
+use Rattle.std.proofs.Common.{◌≡◌, ℕ, ◌+◌, ◌<◌, Bool, true, false, List, [], ◌∷◌, ◌++◌, refl, sym, ◌∙◌, subst, arith, length}
+use Rattle.std.specs.Prelude.{Some}
 use Rattle.std.specs.List.{list_any}
 use Rattle.std.specs.Str.{bytes_eq}
 use Rattle.hv_model.specs.Grammar.{IsRule}
-use Rattle.hv_model.specs.Lines.{Line, nothing, option_line, rule_line, bad_line, Reading, model, fault, Reads, ends, no_configuration, says_nothing, bad, option, repeated, too_many, rule, unknown, no_rule, line_of}
-use Rattle.hv_model.specs.Machine.{limited_run, start}
+use Rattle.hv_model.specs.Lines.{Line, nothing, option_line, rule_line, bad_line, Reading, model, fault, Reads, ends, no_configuration, says_nothing, bad, option, repeated, too_many, rule, unknown, no_rule, line_of, SaysOne}
 use Rattle.hv_model.specs.Rule.{Features, Rule, IsValid, is_about}
 use Rattle.hv_model.specs.Token.{Token}
 use Rattle.hv_model.specs.declared.faults.ModelKind.TheVariants.{BadLine, Repeated, Unknown, TooMany, NoConfiguration}
@@ -129,3 +128,6 @@ Reads-unique (too_many {name = name} e fresh full) p q = after_too_many name e f
 Reads-unique (rule {ts = ts} {r = r} e said about d) p q = Reads-unique d p (after_rule ts r e said about q)
 Reads-unique (unknown {ts = ts} {r = r} e said about) p q = after_unknown ts r e said about q
 Reads-unique (no_rule {ts = ts} e none) p q = after_no_rule ts e none q
+
+pub says_one : (bytes : List ℕ) → SaysOne bytes
+says_one bytes = λ o p a b. Reads-unique a p b

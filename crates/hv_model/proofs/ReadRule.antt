@@ -1,6 +1,6 @@
 -- A rule that is being read.
-use Rattle.std.proofs.Common.{◌≡◌, ℕ, Bool, true, false, ◌&&◌, List, [], ◌∷◌, cond, refl, sym, ◌∙◌, ap, length, ◌<◌, Option, Some, None}
-use Rattle.std.specs.Prelude.{option_and_then, IfSome, IfNone, IfOk, IsTrue, Result, Ok, Err}
+use Rattle.std.proofs.Common.{◌≡◌, ℕ, Bool, true, false, ◌&&◌, List, [], ◌∷◌, refl, sym, ◌∙◌, ap, length, ◌<◌, Option, Some, None}
+use Rattle.std.specs.Prelude.{option_and_then, IfSome, IfNone, IfOk, Result, Ok, Err}
 use Rattle.std.specs.List.{list_all}
 use Rattle.hv_model.specs.Grammar.{IsRule}
 use Rattle.hv_model.specs.Known.{is_known}

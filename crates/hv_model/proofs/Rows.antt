@@ -1,9 +1,8 @@
 -- The definitions at small examples, worked out by hand.
-use Rattle.std.specs.Prelude.{ℕ, ◌≡◌, Bool, true, false, List, [], ◌∷◌, codes, refl}
+use Rattle.std.specs.Prelude.{ℕ, ◌≡◌, true, false, List, [], ◌∷◌, codes, refl}
 use Rattle.hv_model.specs.Config.{config, unknown, repeated, config_of, text_of}
-use Rattle.hv_model.specs.Grammar.{is_shallow}
 use Rattle.hv_model.specs.Lines.{line_of, nothing, option_line, rule_line, bad_line}
-use Rattle.hv_model.specs.Rule.{option, negation, conjunction, disjunction, implication, meets}
+use Rattle.hv_model.specs.Rule.{option, implication, meets}
 use Rattle.hv_model.specs.Token.{implies, either, both, negate, open_, close, word, other, tokens}
 
 cut : tokens (codes "A=>!B1||(c &&_d)& =1") ≡ word (codes "A") ∷ implies ∷ negate ∷ word (codes "B1") ∷ either ∷ open_ ∷ word (codes "c") ∷ both ∷ word (codes "_d") ∷ close ∷ other ∷ other ∷ word (codes "1") ∷ []

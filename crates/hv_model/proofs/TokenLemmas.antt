@@ -1,9 +1,8 @@
 -- Tokens, taken off the front of a text one by one.
-use Rattle.std.proofs.Common.{◌≡◌, ℕ, zero, suc, ◌+◌, ◌<◌, ◌≤◌, Bool, true, false, ◌&&◌, ◌||◌, ◌==◌, List, [], ◌∷◌, cond, refl, sym, ◌∙◌, ap, subst, arith, length, take, drop, get_or, Option, Some, None}
+use Rattle.std.proofs.Common.{◌≡◌, ℕ, suc, ◌+◌, ◌<◌, true, false, List, [], ◌∷◌, cond, refl, sym, ◌∙◌, ap, subst, arith, length, take, drop, get_or, Some, None}
 use Rattle.std.specs.List.{prefix_len}
 use Rattle.std.proofs.lemmas.Bool.Decides.{nat_tests}
 use Rattle.hv_model.specs.Bytes.{is_blank, without_front_blanks}
-use Rattle.hv_model.specs.Name.{is_letter, is_digit}
 use Rattle.hv_model.specs.Token.{Token, word, tokens, lengthened, single, pair_of, is_word_byte}
 
 tokens-blank : (byte : ℕ) (text : List ℕ) → is_blank byte ≡ true → tokens (byte ∷ text) ≡ tokens text

@@ -1,12 +1,12 @@
 -- The lines of a model file, and what the file says.
-use Rattle.std.specs.Prelude.{◌≡◌, ◌≢◌, ℕ, Bool, true, false, cond, ◌+◌, ◌==◌, ◌<◌, List, [], ◌∷◌, ◌++◌, length, codes, IsTrue}
+use Rattle.std.specs.Prelude.{◌≡◌, ℕ, Bool, true, false, cond, ◌+◌, ◌==◌, ◌<◌, List, [], ◌∷◌, ◌++◌, length, codes, IsTrue}
 use Rattle.std.specs.List.{list_any}
 use Rattle.std.specs.Str.{bytes_eq}
 use Rattle.hv_model.specs.Bytes.{without_front_blanks, lines_of}
 use Rattle.hv_model.specs.Name.{is_option_name}
 use Rattle.hv_model.specs.Grammar.{IsRule}
 use Rattle.hv_model.specs.Rule.{Rule, Features, IsValid, is_about}
-use Rattle.hv_model.specs.Token.{Token, implies, either, both, negate, open_, close, word, other, tokens}
+use Rattle.hv_model.specs.Token.{Token, word, tokens}
 use Rattle.hv_model.specs.declared.faults.ModelKind.{ModelKind}
 use Rattle.hv_model.specs.declared.faults.ModelKind.TheVariants.{BadLine, Repeated, Unknown, TooMany, NoConfiguration}
 
@@ -54,3 +54,7 @@ pub data Reads : Features → ℕ → List (List ℕ) → Reading → Type 0 whe
 -- a file says a model or a fault
 abbrev pub Says : List ℕ → Reading → Type 0
 Says bytes reading = Reads (record { names = []; rules = [] }) 1 (lines_of bytes) reading
+
+-- a file says one thing
+abbrev pub SaysOne : List ℕ → Type 0
+SaysOne bytes = (o p : Reading) → Says bytes o → Says bytes p → p ≡ o

@@ -1,11 +1,11 @@
 -- The machine that reads rules: it goes over the tokens once, and keeps what is not ended yet.
-use Rattle.std.specs.Prelude.{◌≡◌, ℕ, zero, suc, Bool, true, false, cond, ◌+◌, nat_lt, List, [], ◌∷◌, length, reverse, Option, Some, None, option_and_then}
-use Rattle.hv_model.specs.Grammar.{place_of, is_shallow}
+use Rattle.std.specs.Prelude.{◌≡◌, ℕ, zero, suc, Bool, true, false, cond, ◌+◌, nat_lt, List, [], ◌∷◌, length, Option, Some, None, option_and_then}
+use Rattle.hv_model.specs.Grammar.{place_of}
 use Rattle.hv_model.specs.Name.{is_name}
 use Rattle.hv_model.specs.Rule.{Rule, option}
 use Rattle.hv_model.specs.declared.code.Step.{Step}
-use Rattle.hv_model.specs.Steps.{Item, value, items_of, rule_of, conjoined, disjoined, negated, supposed, supposed_too, closed, rule_on}
-use Rattle.hv_model.specs.Token.{Token, implies, either, both, negate, open_, close, word, other}
+use Rattle.hv_model.specs.Steps.{Item, value, rule_of, conjoined, disjoined, negated, supposed, supposed_too, closed, rule_on}
+use Rattle.hv_model.specs.Token.{Token, implies, either, both, negate, open_, close, word}
 use Rattle.hv_model.specs.declared.parser.Frame.{Frame}
 
 -- what the machine waits for, what stands open in the innermost parentheses and in those around it, and the stack

@@ -1,11 +1,9 @@
 -- What the reader of model files answers.
-use Rattle.std.specs.Prelude.{ℕ, ◌≡◌, List, map, length, All, IsTrue}
+use Rattle.std.specs.Prelude.{ℕ, List, All, IsTrue}
 use Rattle.std.specs.List.{list_all}
-use Rattle.hv_model.specs.Lines.{Line, nothing, option_line, rule_line, bad_line, Reading, model, fault, Says}
-use Rattle.hv_model.specs.Name.{is_option_name}
+use Rattle.hv_model.specs.Lines.{Reading, model, fault, Says}
 use Rattle.hv_model.specs.Rule.{Features}
 use Rattle.hv_model.specs.Steps.{fits}
-use Rattle.hv_model.specs.Token.{tokens}
 use Rattle.hv_model.specs.declared.code.Step.{Step}
 use Rattle.hv_model.specs.declared.faults.ModelRefusal.{ModelRefusal}
 use Rattle.hv_model.specs.declared.faults.ModelRefusal.TheVariants.{Bad, Memory}

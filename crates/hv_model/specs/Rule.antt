@@ -1,5 +1,5 @@
 -- Rules of a feature model, and valid configurations.
-use Rattle.std.specs.Prelude.{◌≡◌, ℕ, Bool, true, false, ◌&&◌, ◌||◌, not, nat_lt, List, [], ◌∷◌, length, IsTrue}
+use Rattle.std.specs.Prelude.{◌≡◌, ℕ, Bool, false, ◌&&◌, ◌||◌, not, nat_lt, List, length, IsTrue}
 use Rattle.std.specs.List.{list_all, slice_index_or}
 
 pub data Rule : Type 0 where

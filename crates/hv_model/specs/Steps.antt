@@ -1,7 +1,7 @@
 -- A rule as code for a machine with a stack, and what the code says.
 use Rattle.std.specs.Prelude.{ℕ, ◌≤◌, Bool, true, false, ◌&&◌, ◌||◌, not, nat_lt, List, [], ◌∷◌, fold, take, length}
-use Rattle.std.specs.List.{list_all, slice_index_or}
-use Rattle.hv_model.specs.Rule.{Rule, option, negation, conjunction, disjunction, implication, meets}
+use Rattle.std.specs.List.{slice_index_or}
+use Rattle.hv_model.specs.Rule.{Rule, option, negation, conjunction, disjunction, implication}
 use Rattle.hv_model.specs.declared.code.Step.{Step}
 use Rattle.hv_model.specs.declared.code.Step.TheVariants.{Option, Not, And, Or, Suppose, SupposeToo, Conclude}
 

@@ -1,5 +1,5 @@
 -- How a line is cut into tokens.
-use Rattle.std.specs.Prelude.{ℕ, Bool, true, false, cond, ◌&&◌, ◌||◌, ◌==◌, List, [], ◌∷◌, Option, Some, None}
+use Rattle.std.specs.Prelude.{ℕ, Bool, cond, ◌&&◌, ◌||◌, ◌==◌, List, [], ◌∷◌, Option, Some, None}
 use Rattle.std.specs.Option.{option_map_or}
 use Rattle.hv_model.specs.Bytes.{is_blank}
 use Rattle.hv_model.specs.Name.{is_letter, is_digit}

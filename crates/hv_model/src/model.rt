@@ -4,7 +4,7 @@ ghost use Rattle.std.specs.List.{list_all, list_any};
 ghost use Rattle.std.specs.Str.{bytes_eq};
 ghost use Rattle.hv_cond.specs.Diagram.{IsNode, Keeps, holds};
 ghost use Rattle.hv_model.specs.Grammar.{IsRule};
-ghost use Rattle.hv_model.specs.Lines.{Reading, Reads, line_of, option_line, rule_line, bad_line};
+ghost use Rattle.hv_model.specs.Lines.{Reading, Reads, SaysOne, line_of, option_line, rule_line, bad_line};
 ghost use Rattle.hv_model.specs.Model.{AllFit, IsModelOf, IsRefusalIn, IsRefusalOf};
 ghost use Rattle.hv_model.specs.Name.{AllOptionNames, are_distinct, is_option_name as option_name};
 ghost use Rattle.hv_model.specs.Rule.{Features, IsValid, is_about, meets_all};
@@ -238,6 +238,7 @@ fn strip_return(line: &[u8]) -> &[u8]
 pub fn read_model(alloc: Global, bytes: &[u8]) -> Result<Model, ModelRefusal>
     ensures accepted { IfOk result (IsModelOf bytes.now) }
     ensures refused { IfErr result (IsRefusalOf bytes.now) }
+    ensures one_reading { SaysOne bytes.now }
 {
     let mut model = Model::new(alloc);
     let mut number = 1u64;

@@ -1,4 +1,3 @@
-use Rattle.std.proofs.Common.{sym, ◌∙◌, ap}
 use Rattle.hv_model.specs.Config.{is_comma}
 use Rattle.hv_model.proofs.ListLemmas.{take-rest, slice_split_front, slice_split_whole}
 use Rattle.hv_model.proofs.configs.next_piece.Goals as goal

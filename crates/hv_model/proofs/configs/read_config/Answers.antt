@@ -1,6 +1,6 @@
-use Rattle.std.proofs.Common.{◌∙◌, sym, ap, arith}
+use Rattle.std.proofs.Common.{◌∙◌, sym, ap}
 use Rattle.std.proofs.lemmas.Result.{err_from_is_err_and}
-use Rattle.hv_model.specs.Config.{config, config_from, config_of, pieces_of}
+use Rattle.hv_model.specs.Config.{config, config_from, pieces_of}
 use Rattle.hv_model.proofs.ConfigLemmas.{all_off-replicate, fault_at}
 use Rattle.hv_model.proofs.configs.read_config.Goals as goal
 

@@ -1,4 +1,4 @@
-use Rattle.std.proofs.Common.{◌∙◌, sym, ap, ◌≡◌, List, ℕ, [], ◌∷◌}
+use Rattle.std.proofs.Common.{ap, ◌≡◌, List, ℕ, [], ◌∷◌}
 use Rattle.std.proofs.lemmas.Result.{err_from_is_err_and}
 use Rattle.hv_model.specs.Bytes.{lines_of, without_return}
 use Rattle.hv_model.specs.Lines.{Reading, Reads, Says, model, fault}
@@ -6,6 +6,7 @@ use Rattle.hv_model.specs.declared.faults.ModelKind.TheVariants.{NoConfiguration
 use Rattle.hv_model.specs.Model.{IsRefusalIn}
 use Rattle.hv_model.specs.Rule.{Features}
 use Rattle.hv_model.specs.declared.faults.ModelRefusal.{ModelRefusal}
+use Rattle.hv_model.proofs.OneReading.{says_one}
 use Rattle.hv_model.proofs.ReadModel.{refusal_map, valid_given, none_given, reads_end, reads_none}
 use Rattle.hv_model.proofs.model.read_model.Goals as goal
 
@@ -33,3 +34,15 @@ returns-in-Ok-false-clause-refused c =
     rw c.bad.ensures
     (c.loop-line.invariant.0 (fault 0 NoConfiguration)
     (reads_none c.loop-line.model c.loop-line.number (lines_of c.loop-line.rest.now) (ended c.loop-line.rest.now c.in_default.ensures.none) (none_given c.loop-line.model c.in-Ok-false.field-0 c.in-Ok-false.field-0-test c.in-Ok-false.ensures)))
+
+pub returns-in_err-add_line-clause-one_reading : goal.returns-in_err-add_line-clause-one_reading
+returns-in_err-add_line-clause-one_reading c = says_one c.args.bytes.now
+
+pub returns-in-Ok-true-clause-one_reading : goal.returns-in-Ok-true-clause-one_reading
+returns-in-Ok-true-clause-one_reading c = says_one c.args.bytes.now
+
+pub returns-in-Ok-false-clause-one_reading : goal.returns-in-Ok-false-clause-one_reading
+returns-in-Ok-false-clause-one_reading c = says_one c.args.bytes.now
+
+pub returns-in-Err-clause-one_reading : goal.returns-in-Err-clause-one_reading
+returns-in-Err-clause-one_reading c = says_one c.args.bytes.now

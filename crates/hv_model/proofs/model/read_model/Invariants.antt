@@ -1,4 +1,4 @@
-use Rattle.std.proofs.Common.{◌≡◌, ℕ, ◌+◌, ◌≤◌, length}
+use Rattle.std.proofs.Common.{◌+◌, ◌≤◌, length}
 use Rattle.hv_model.specs.Bytes.{lines_of}
 use Rattle.hv_model.specs.Lines.{Reading, Reads, Says}
 use Rattle.hv_model.proofs.model.read_model.Given as goal

@@ -1,13 +1,4 @@
-use Rattle.std.proofs.Common.{◌≡◌, ℕ, ◌&&◌, length}
-use Rattle.std.specs.List.{list_all}
-use Rattle.hv_model.specs.Known.{is_known}
-use Rattle.hv_model.specs.Machine.{limited_run, start}
-use Rattle.hv_model.specs.Parsed.{machine_of}
-use Rattle.hv_model.specs.Steps.{items_of}
-use Rattle.hv_model.specs.Token.{tokens}
-use Rattle.hv_model.specs.declared.parser.Parser.{Parser}
-use Rattle.hv_model.proofs.Known.{about}
-use Rattle.hv_model.proofs.Limits.{IsBounded}
+use Rattle.std.proofs.Common.{length}
 use Rattle.hv_model.proofs.ReadRule.{IsReading}
 use Rattle.hv_model.proofs.rules.read_rule.Given as goal
 

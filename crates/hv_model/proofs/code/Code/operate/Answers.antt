@@ -1,4 +1,3 @@
-use Rattle.hv_model.specs.Steps.{IsLow}
 use Rattle.hv_model.proofs.StepLemmas.{operator-low}
 use Rattle.hv_model.proofs.code.Code.operate.Goals as goal
 

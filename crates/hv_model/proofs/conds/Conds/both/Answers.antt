@@ -1,7 +1,6 @@
-use Rattle.std.proofs.Common.{◌&&◌, ◌||◌, not}
-use Rattle.hv_cond.specs.Diagram.{holds, value_of}
-use Rattle.hv_cond.specs.Laws.{Keeps-trans}
-use Rattle.hv_model.proofs.CondLemmas.{pushed_nodes, pushed_meaning, implied_meaning, nodes_kept}
+use Rattle.std.proofs.Common.{◌&&◌}
+use Rattle.hv_cond.specs.Diagram.{holds}
+use Rattle.hv_model.proofs.CondLemmas.{pushed_nodes, pushed_meaning}
 use Rattle.hv_model.proofs.conds.Conds.both.Goals as goal
 
 pub and-requires-clause-first : goal.and-requires-clause-first

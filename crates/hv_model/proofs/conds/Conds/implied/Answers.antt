@@ -1,7 +1,7 @@
-use Rattle.std.proofs.Common.{◌&&◌, ◌||◌, not}
-use Rattle.hv_cond.specs.Diagram.{holds, value_of}
+use Rattle.std.proofs.Common.{◌||◌, not}
+use Rattle.hv_cond.specs.Diagram.{holds}
 use Rattle.hv_cond.specs.Laws.{Keeps-trans}
-use Rattle.hv_model.proofs.CondLemmas.{pushed_nodes, pushed_meaning, implied_meaning, nodes_kept}
+use Rattle.hv_model.proofs.CondLemmas.{pushed_nodes, pushed_meaning, implied_meaning}
 use Rattle.hv_model.proofs.conds.Conds.implied.Goals as goal
 
 pub not-requires : goal.not-requires

@@ -1,7 +1,5 @@
-use Rattle.std.proofs.Common.{◌&&◌, ◌||◌, not}
-use Rattle.hv_cond.specs.Diagram.{holds, value_of}
-use Rattle.hv_cond.specs.Laws.{Keeps-trans}
-use Rattle.hv_model.proofs.CondLemmas.{pushed_nodes, pushed_meaning, implied_meaning, nodes_kept}
+use Rattle.hv_cond.specs.Diagram.{value_of}
+use Rattle.hv_model.proofs.CondLemmas.{pushed_nodes, pushed_meaning}
 use Rattle.hv_model.proofs.conds.Conds.option.Goals as goal
 
 pub returns-clause-nodes : goal.returns-clause-nodes
