@@ -1,0 +1,9 @@
+//! The value of the controlling expression of `#if` and `#elif` (ISO/IEC 9899:1999, 6.10.1).
+#![tactic(auto)]
+
+
+mod operand;
+mod operator;
+
+pub use operand::Operand;
+pub use operator::{Binary, Unary};
