@@ -1,7 +1,7 @@
 //! The value of the controlling expression of `#if` and `#elif` (ISO/IEC 9899:1999, 6.10.1).
 #![tactic(auto)]
 
-
+mod constant;
 mod operand;
 mod operator;
 
