@@ -2,8 +2,12 @@
 #![tactic(auto)]
 
 mod constant;
+mod machine;
 mod operand;
 mod operator;
+mod symbol;
 
+pub use machine::Frame;
 pub use operand::Operand;
 pub use operator::{Binary, Unary};
+pub use symbol::Symbol;
