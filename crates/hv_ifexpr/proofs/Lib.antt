@@ -1,2 +1,3 @@
 pub mod Completeness
 pub mod Numbers
+pub mod Soundness
