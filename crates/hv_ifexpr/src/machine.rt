@@ -22,7 +22,7 @@ pub enum Frame {
 }
 
 /// The level of the expressions that the operator makes.
-fn level(op: crate::Binary) -> u8
+pub(crate) fn level(op: crate::Binary) -> u8
     ensures { result ≡ level_of op }
 {
     match op {
@@ -43,7 +43,7 @@ fn level(op: crate::Binary) -> u8
 }
 
 /// Whether what stands open ends before a symbol that makes expressions of this level.
-fn ends(level_before: u8, frame: Frame) -> bool
+pub(crate) fn ends(level_before: u8, frame: Frame) -> bool
     ensures { result ≡ ends_test level_before frame }
 {
     match frame {
@@ -55,7 +55,7 @@ fn ends(level_before: u8, frame: Frame) -> bool
 }
 
 /// Ends what stands open.
-fn apply(frame: Frame, operand: Operand) -> Operand
+pub(crate) fn apply(frame: Frame, operand: Operand) -> Operand
     ensures { result ≡ applied frame operand }
 {
     match frame {
@@ -67,7 +67,7 @@ fn apply(frame: Frame, operand: Operand) -> Operand
 }
 
 /// The unary operator that the symbol is.
-fn unary_of(symbol: Symbol) -> Option<crate::Unary>
+pub(crate) fn unary_of(symbol: Symbol) -> Option<crate::Unary>
     ensures { result ≡ sign_of symbol }
 {
     match symbol {
