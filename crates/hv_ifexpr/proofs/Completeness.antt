@@ -124,8 +124,8 @@ arrives_parenthesized before ts v a = record {
   stack = before;
   last = v;
   runs = λ rest. ap (run (want (Parenthesis ∷ before))) (append_assoc ts (Close ∷ []) rest)
-    ∙ (a.runs (Close ∷ rest)
-    ∙ ap (λ r. option_and_then (λ next. run next rest) (after_close r)) (a.ended 0 (omega arith)));
+      ∙ (a.runs (Close ∷ rest)
+      ∙ ap (λ r. option_and_then (λ next. run next rest) (after_close r)) (a.ended 0 (omega arith)));
   ended = λ p h. refl;
 }
 
@@ -135,9 +135,9 @@ arrives_binary before ts us op x y keeps a b = record {
   stack = b.stack;
   last = b.last;
   runs = λ rest. ap (run (want before)) (append_assoc ts (Operator op ∷ us) rest)
-    ∙ (a.runs (Operator op ∷ (us ++ rest))
-    ∙ (ap (λ r. run (after_operator op r) (us ++ rest)) (a.ended (level op) (omega arith) ∙ keeps.same (level op) x (omega arith) (level-pos op) (level-most op))
-    ∙ b.runs rest));
+      ∙ (a.runs (Operator op ∷ (us ++ rest))
+      ∙ (ap (λ r. run (after_operator op r) (us ++ rest)) (a.ended (level op) (omega arith) ∙ keeps.same (level op) x (omega arith) (level-pos op) (level-most op))
+      ∙ b.runs rest));
   ended = λ p h. b.ended p (omega arith) ∙ binary_ended op x y before p h;
 }
 
@@ -152,12 +152,12 @@ arrives_conditional before cs ts us x y z keeps a b c = record {
   stack = c.stack;
   last = c.last;
   runs = λ rest. ap (run (want before)) (append_assoc cs (Question ∷ (ts ++ Colon ∷ us)) rest)
-    ∙ (a.runs (Question ∷ ((ts ++ Colon ∷ us) ++ rest))
-    ∙ (ap (λ r. run (after_question r) ((ts ++ Colon ∷ us) ++ rest)) (a.ended 1 (omega arith) ∙ keeps.same 1 x (omega arith) (omega arith) (omega arith))
-    ∙ (ap (run (want (Then x ∷ before))) (append_assoc ts (Colon ∷ us) rest)
-    ∙ (b.runs (Colon ∷ (us ++ rest))
-    ∙ (ap (λ r. option_and_then (λ next. run next (us ++ rest)) (after_colon r)) (b.ended 0 (omega arith))
-    ∙ c.runs rest)))));
+      ∙ (a.runs (Question ∷ ((ts ++ Colon ∷ us) ++ rest))
+      ∙ (ap (λ r. run (after_question r) ((ts ++ Colon ∷ us) ++ rest)) (a.ended 1 (omega arith) ∙ keeps.same 1 x (omega arith) (omega arith) (omega arith))
+      ∙ (ap (run (want (Then x ∷ before))) (append_assoc ts (Colon ∷ us) rest)
+      ∙ (b.runs (Colon ∷ (us ++ rest))
+      ∙ (ap (λ r. option_and_then (λ next. run next (us ++ rest)) (after_colon r)) (b.ended 0 (omega arith))
+      ∙ c.runs rest)))));
   ended = none_below before x y z c.stack c.last c.ended;
 }
 

@@ -137,13 +137,13 @@ reduce_holds (Unary op ∷ stack) k l v done le most h =
 reduce_holds (Binary op x ∷ stack) k l v done le most h =
     elim (nat_le k (level op)) as (λ b. nat_le k (level op) ≡ b → HoldsReduced k (cond b (reduce k stack (binary_value op x v)) (reduced (Binary op x ∷ stack) v)) done) [
       | true ↦ λ e. let below : k ≤ level op = grind (arith, nat_tests) in
-        reduce_holds stack k (level op) (binary_value op x v) done below most (holds_binary op x stack v done h.before h.ts h.tree h.reads (lowered (suc (level op)) l h.ts h.tree h.fits h.derives) h.all h.is)
+          reduce_holds stack k (level op) (binary_value op x v) done below most (holds_binary op x stack v done h.before h.ts h.tree h.reads (lowered (suc (level op)) l h.ts h.tree h.fits h.derives) h.all h.is)
       | false ↦ λ e. let above : suc (level op) ≤ k = grind (arith, nat_tests) in holds_lower k l (Binary op x ∷ stack) v done le above h
     ] refl
 reduce_holds (Else x y ∷ stack) k l v done le most h =
     elim (nat_eq k 0) as (λ b. nat_eq k 0 ≡ b → HoldsReduced k (cond b (reduce k stack (conditional_value x y v)) (reduced (Else x y ∷ stack) v)) done) [
       | true ↦ λ e. let none : k ≤ 0 = grind (arith, nat_tests) in
-        reduce_holds stack k 0 (conditional_value x y v) done none most (holds_conditional x y stack v done h.before h.ts h.tree h.reads (lowered 0 l h.ts h.tree (omega arith) h.derives) h.all h.is)
+          reduce_holds stack k 0 (conditional_value x y v) done none most (holds_conditional x y stack v done h.before h.ts h.tree h.reads (lowered 0 l h.ts h.tree (omega arith) h.derives) h.all h.is)
       | false ↦ λ e. holds_lower k l (Else x y ∷ stack) v done le tt h
     ] refl
 
@@ -190,9 +190,9 @@ arm_read : (x : Operand) (stack : List Frame) (v : Operand) (done before ts : Li
 arm_read x stack v done before ts t (condition {before = q} {cs = cs} {c = c} r e fits) d all is =
     subst (λ (y : Operand). Reads (Else (value c) y ∷ stack) (done ++ Colon ∷ [])) (sym is)
     (retold _ _ _ (sym (ap (λ w. w ++ Colon ∷ []) all
-      ∙ (append_assoc (q ++ (cs ++ Question ∷ [])) ts (Colon ∷ [])
-      ∙ (append_assoc q (cs ++ Question ∷ []) (ts ++ Colon ∷ [])
-      ∙ ap (λ w. q ++ w) (append_assoc cs (Question ∷ []) (ts ++ Colon ∷ [])))))) (arm r e d fits))
+    ∙ (append_assoc (q ++ (cs ++ Question ∷ [])) ts (Colon ∷ [])
+    ∙ (append_assoc q (cs ++ Question ∷ []) (ts ++ Colon ∷ [])
+    ∙ ap (λ w. q ++ w) (append_assoc cs (Question ∷ []) (ts ++ Colon ∷ [])))))) (arm r e d fits))
 
 colon_read : (stack : List Frame) (v : Operand) (done : List Symbol) → Holds 0 stack v done → ReadsNext (colon_at stack v) (done ++ Colon ∷ [])
 colon_read [] v done h = tt

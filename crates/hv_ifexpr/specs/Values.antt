@@ -42,7 +42,7 @@ abbrev pub right_shifted : Bool → ℕ → ℕ → Option ℕ
 right_shifted is_unsigned x y = cond (nat_lt y 64) (Some (cond is_unsigned (x / 2 ^ y) (cast_unsigned w64 (int_shr (signed x) y)))) None
 
 -- the bits that an operator gives, whose operands were converted to a common type that is unsigned or not;
--- of a shift, to its left operand's type
+-- of a shift, to its left operand's type. `&&` and `||` come below
 abbrev pub bits_of : Binary → Bool → ℕ → ℕ → Option ℕ
 bits_of Multiply u x y = Some ((x * y) % 2 ^ 64)
 bits_of Divide u x y = quotient u x y
@@ -60,8 +60,8 @@ bits_of NotEqual u x y = Some (bit_of (not (nat_eq x y)))
 bits_of And u x y = Some (bit_and x y)
 bits_of ExclusiveOr u x y = Some (bit_xor x y)
 bits_of Or u x y = Some (bit_or x y)
-bits_of LogicalAnd u x y = Some (bit_of (is_nonzero y))
-bits_of LogicalOr u x y = Some (bit_of (is_nonzero y))
+bits_of LogicalAnd u x y = None
+bits_of LogicalOr u x y = None
 
 -- the common type of two operands is unsigned if one of them is (6.3.1.8)
 abbrev pub common : Operand → Operand → Bool

@@ -14,10 +14,12 @@ fn decide(value: Option<Operand>) -> Result<bool, IfFault>
     ensures { result ≡ decided value }
 {
     match value {
-        Some(Operand {
-            is_unsigned: _,
-            bits: Some(bits),
-        }) => Ok(bits != 0),
+        Some(
+            Operand {
+                is_unsigned: _,
+                bits: Some(bits),
+            },
+        ) => Ok(bits != 0),
         _ => Err(IfFault::Bad),
     }
 }

@@ -131,7 +131,9 @@ fn unsuffixed_len(text: &[u8]) -> usize
     ensures value { result ≡ unsuffixed_len_of text.now }
     ensures within { result ≤ length text.now }
 {
-    text.iter().take_while(|byte| !is_suffix_letter(**byte)).count()
+    text.iter()
+        .take_while(|byte| !is_suffix_letter(**byte))
+        .count()
 }
 
 /// What an integer constant comes to.
@@ -147,7 +149,11 @@ fn char_value(byte: u8) -> Operand
     ensures { result ≡ char_value_of byte }
 {
     let value = u64::from(byte);
-    let bits = if byte < 128 { value } else { u64::MAX - 255 + value };
+    let bits = if byte < 128 {
+        value
+    } else {
+        u64::MAX - 255 + value
+    };
     Operand {
         is_unsigned: false,
         bits: Some(bits),
@@ -158,7 +164,11 @@ fn char_value(byte: u8) -> Operand
 fn byte_value(number: u64) -> Option<Operand>
     ensures { result ≡ byte_value_of number }
 {
-    if number < 256 { Some(char_value(number as u8)) } else { None }
+    if number < 256 {
+        Some(char_value(number as u8))
+    } else {
+        None
+    }
 }
 
 fn simple_escape(byte: u8) -> Option<u64>

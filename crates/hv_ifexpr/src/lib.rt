@@ -13,7 +13,9 @@ mod symbol;
 
 pub use answer::evaluate;
 pub use fault::IfFault;
-pub use machine::Frame;
 pub use operand::Operand;
 pub use operator::{Binary, Unary};
 pub use symbol::Symbol;
+
+#[cfg(test)]
+mod tests;

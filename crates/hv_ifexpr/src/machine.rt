@@ -9,7 +9,7 @@ use std::alloc::{AllocError, Global};
 
 /// What stands open before an operand.
 #[derive(Clone, Copy, Debug, PartialEq, Eq)]
-pub enum Frame {
+pub(crate) enum Frame {
     /// `(`
     Parenthesis,
     Unary(crate::Unary),

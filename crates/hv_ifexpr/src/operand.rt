@@ -22,7 +22,11 @@ fn bit(truth: bool) -> u64
 fn less(is_unsigned: bool, x: u64, y: u64) -> bool
     ensures { result ≡ less_test is_unsigned x y }
 {
-    if is_unsigned { x < y } else { x.cast_signed() < y.cast_signed() }
+    if is_unsigned {
+        x < y
+    } else {
+        x.cast_signed() < y.cast_signed()
+    }
 }
 
 fn divide(is_unsigned: bool, x: u64, y: u64) -> Option<u64>
@@ -33,7 +37,11 @@ fn divide(is_unsigned: bool, x: u64, y: u64) -> Option<u64>
     } else if is_unsigned {
         Some(x / y)
     } else {
-        Some(x.cast_signed().wrapping_div(y.cast_signed()).cast_unsigned())
+        Some(
+            x.cast_signed()
+                .wrapping_div(y.cast_signed())
+                .cast_unsigned(),
+        )
     }
 }
 
@@ -45,14 +53,22 @@ fn remainder(is_unsigned: bool, x: u64, y: u64) -> Option<u64>
     } else if is_unsigned {
         Some(x % y)
     } else {
-        Some(x.cast_signed().wrapping_rem(y.cast_signed()).cast_unsigned())
+        Some(
+            x.cast_signed()
+                .wrapping_rem(y.cast_signed())
+                .cast_unsigned(),
+        )
     }
 }
 
 fn shift_left(x: u64, y: u64) -> Option<u64>
     ensures { result ≡ left_shifted x y }
 {
-    if y < 64 { Some(x.wrapping_shl(y as u32)) } else { None }
+    if y < 64 {
+        Some(x.wrapping_shl(y as u32))
+    } else {
+        None
+    }
 }
 
 fn shift_right(is_unsigned: bool, x: u64, y: u64) -> Option<u64>
@@ -67,7 +83,7 @@ fn shift_right(is_unsigned: bool, x: u64, y: u64) -> Option<u64>
     }
 }
 
-/// The bits that an operator gives for operands of a common type.
+/// The bits that an operator other than `&&` and `||` gives for operands of a common type.
 fn bits(op: Binary, is_unsigned: bool, x: u64, y: u64) -> Option<u64>
     ensures { result ≡ bits_of op is_unsigned x y }
 {
@@ -88,7 +104,7 @@ fn bits(op: Binary, is_unsigned: bool, x: u64, y: u64) -> Option<u64>
         Binary::And => Some(x & y),
         Binary::ExclusiveOr => Some(x ^ y),
         Binary::Or => Some(x | y),
-        Binary::LogicalAnd | Binary::LogicalOr => Some(bit(y != 0)),
+        Binary::LogicalAnd | Binary::LogicalOr => None,
     }
 }
 

@@ -4,10 +4,10 @@ ghost use Rattle.hv_ifexpr.specs.Machine.{IsTaken, after_close, after_colon, fin
 ghost use Rattle.hv_ifexpr.specs.Grammar.{symbols};
 ghost use Rattle.hv_ifexpr.specs.States.{state_of};
 
-use crate::machine::{level, unary_of};
+use crate::machine::{Frame, level, unary_of};
 use crate::stack::Stack;
 use crate::symbol::classify;
-use crate::{Frame, Operand, Symbol};
+use crate::{Operand, Symbol};
 use hv_toks::PpTok;
 use std::alloc::{AllocError, Global};
 

@@ -3,8 +3,8 @@ ghost use Rattle.std.specs.Prelude.{◌≡◌, [], ◌∷◌, true, IfNone, IfSo
 ghost use Rattle.hv_ifexpr.specs.Machine.{ends as ends_test, reduce as reduce_to, reduced};
 ghost use Rattle.hv_ifexpr.specs.declared.operand.Operand.{Operand as OperandOf};
 
-use crate::machine::{apply, ends};
-use crate::{Frame, Operand};
+use crate::Operand;
+use crate::machine::{Frame, apply, ends};
 use std::alloc::{AllocError, Global};
 
 /// What stands open. Contracts see it as a list, the innermost first.
