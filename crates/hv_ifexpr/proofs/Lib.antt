@@ -1,0 +1,4 @@
+pub mod Completeness
+pub mod Numbers
+pub mod Soundness
+pub mod Truth
