@@ -1,10 +1,12 @@
 pub mod ByteTests
 pub mod Choice
+mod Examples
 pub mod Gaps
 pub mod Kept
 pub mod Longest
 pub mod Only
 pub mod Parting
+pub mod Pieces
 pub mod Printed
 pub mod Punctuators
 pub mod Reaches
