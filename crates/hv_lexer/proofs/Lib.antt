@@ -1,12 +1,19 @@
 pub mod ByteTests
+pub mod Choice
+mod Examples
 pub mod Gaps
 pub mod Kept
 pub mod Longest
 pub mod Only
 pub mod Parting
+pub mod Pieces
+pub mod Printed
 pub mod Punctuators
 pub mod Reaches
 pub mod Rising
+pub mod Spellings
 pub mod Spliced
+pub mod Stopped
 pub mod Total
+pub mod Unspliced
 pub mod Views

@@ -47,7 +47,7 @@ longest-within : (p : List ℕ → Bool) (xs : List ℕ) → longest p xs ≤ le
 longest-within p [] = omega arith
 longest-within p (x ∷ xs) = within (p (x ∷ [])) (longest (λ f. p (x ∷ f)) xs) (length xs) (longest-within (λ f. p (x ∷ f)) xs)
 
-longer-within : (a b : Match) (k : ℕ) → a.len ≤ k → b.len ≤ k → (longer a b).len ≤ k
+pub longer-within : (a b : Match) (k : ℕ) → a.len ≤ k → b.len ≤ k → (longer a b).len ≤ k
 longer-within a b k h l = elim (nat_lt a.len b.len) as (λ t. (cond t b a).len ≤ k) [ true ↦ l | false ↦ h ]
 
 longest_token-within : (text : List ℕ) → (longest_token text).len ≤ length text

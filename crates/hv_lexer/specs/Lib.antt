@@ -1,4 +1,5 @@
 pub mod Fronts
 pub mod Laws
 pub mod Lengths
+pub mod Printed
 pub mod Refusal

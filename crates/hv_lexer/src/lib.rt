@@ -1,8 +1,9 @@
 //! Cuts source files into preprocessing tokens.
 #![tactic(auto)]
 
-ghost use Rattle.std.specs.Prelude.{IfOk, IfErr, length};
+ghost use Rattle.std.specs.Prelude.{◌≡◌, IfOk, IfErr, length};
 ghost use Rattle.hv_lexer.specs.Laws.{IsParted, Rise};
+ghost use Rattle.hv_lexer.specs.Printed.{ArePrintable, Piece, Restores, spaced};
 ghost use Rattle.hv_lexer.specs.Refusal.{IsRefusalOf, Tells};
 ghost use Rattle.hv_toks.specs.Cutting.{Cutting, IsCut, tokens};
 
@@ -28,6 +29,7 @@ pub fn lex(alloc: Global, file: u32, bytes: &[u8]) -> Result<List<PpTok>, LexRef
     ensures parted { IfOk result (λ list. IsParted list bytes.now) }
     ensures total { (cutting : Cutting) × IsCut file bytes.now cutting }
     ensures only { (cutting : Cutting) → IsCut file bytes.now cutting → Tells result cutting }
+    ensures reads_back { (pieces : List Piece) → ArePrintable pieces → bytes.now ≡ spaced pieces → Restores result pieces }
 {
     let Ok(spliced) = splices::splice(alloc, bytes) else {
         return Err(LexRefusal::Memory);

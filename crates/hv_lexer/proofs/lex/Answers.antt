@@ -2,6 +2,7 @@ use Rattle.std.proofs.Common.{◌∙◌, arith}
 use Rattle.hv_lexer.proofs.Kept.{offsets-fit}
 use Rattle.hv_lexer.proofs.Only.{if_cut, tells}
 use Rattle.hv_lexer.proofs.Parting.{lex-parts}
+use Rattle.hv_lexer.proofs.Printed.{restores}
 use Rattle.hv_lexer.proofs.Rising.{lex-rises}
 use Rattle.hv_lexer.proofs.Total.{total}
 use Rattle.hv_lexer.proofs.lex.Goals as goal
@@ -13,6 +14,9 @@ pub returns-clause-only : goal.returns-clause-only
 returns-clause-only c =
     tells c.args.file c.args.bytes.now c.as_slice.result.now c.as_slice-2.result.now c.cut.result
     (c.as_slice.ensures ∙ c.in-Ok.ensures.text) (c.as_slice-2.ensures ∙ c.in-Ok.ensures.offsets) c.cut.ensures.ok c.cut.ensures.refused
+
+pub returns-clause-reads_back : goal.returns-clause-reads_back
+returns-clause-reads_back c = restores c.args.file c.args.bytes.now c.cut.result (returns-clause-only c)
 
 pub returns-clause-rising : goal.returns-clause-rising
 returns-clause-rising c =
