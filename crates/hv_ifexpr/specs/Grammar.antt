@@ -1,4 +1,6 @@
--- The grammar of controlling expressions, and the value of what it derives.
+-- The grammar of controlling expressions (6.6, 6.10.1), and the value of what it derives.
+-- Not in here: assignment, comma, casts, `sizeof`, `++`, `--`, `&` and `*` before an operand, and `defined`,
+-- which is replaced before.
 use Rattle.std.specs.Prelude.{ℕ, suc, ◌≡◌, Bool, List, [], ◌∷◌, ◌++◌, map, Option, Some, option_and_then}
 use Rattle.hv_toks.specs.declared.token.PpTok.{PpTok}
 use Rattle.hv_ifexpr.specs.Symbols.{symbol_of}

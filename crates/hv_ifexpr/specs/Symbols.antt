@@ -1,4 +1,5 @@
 -- What a token is to the grammar of controlling expressions.
+-- Not in here: punctuators that stand in no such expression, strings and header names, which are all `Other`.
 use Rattle.std.specs.Prelude.{ℕ, false, cond, ◌==◌, List, [], ◌∷◌, codes, Option, Some, None}
 use Rattle.std.specs.Str.{bytes_eq}
 use Rattle.hv_toks.specs.declared.token.PpKind.{PpKind}

@@ -33,7 +33,7 @@ quotient is_unsigned x y = cond (nat_eq y 0) None (Some (cond is_unsigned (x / y
 abbrev pub remainder : Bool → ℕ → ℕ → Option ℕ
 remainder is_unsigned x y = cond (nat_eq y 0) None (Some (cond is_unsigned (x % y) (cast_unsigned w64 (int_rem (signed x) (signed y)))))
 
--- 6.5.7: no value where the amount is negative, which its bits as a number exceed 63 for, or at least 64
+-- 6.5.7: no value where the amount is at least 64 or negative; the bits of a negative one, as a number, are above 63 too
 abbrev pub left_shifted : ℕ → ℕ → Option ℕ
 left_shifted x y = cond (nat_lt y 64) (Some ((x * 2 ^ y) % 2 ^ 64)) None
 
