@@ -1,10 +1,10 @@
 -- The machine reads what the grammar derives, and no other tree.
-use Rattle.std.proofs.Common.{◌≡◌, ℕ, zero, suc, ◌+◌, ◌<◌, ◌≤◌, Bool, true, false, cond, List, [], ◌∷◌, ◌++◌, refl, sym, ap, ◌∙◌, append_assoc, arith, Option, Some, None, subst}
+use Rattle.std.proofs.Common.{◌≡◌, ℕ, zero, suc, ◌≤◌, true, false, List, [], ◌∷◌, ◌++◌, refl, sym, ap, ◌∙◌, append_assoc, arith, Some}
 use Rattle.std.proofs.lemmas.List.{append-nil}
 use Rattle.std.proofs.lemmas.Bool.Decides.{nat_tests}
 use Rattle.std.specs.Prelude.{nat_le, nat_eq, option_and_then}
-use Rattle.hv_ifexpr.specs.Grammar.{Tree, number, unary, binary, conditional, level, sign, Derives, a_number, a_parenthesized, a_unary, a_binary, a_conditional, a_higher, value}
-use Rattle.hv_ifexpr.specs.Machine.{State, want, have, Reduced, reduced, reduce, step, run, after_operator, after_question, after_colon, after_close, after_end}
+use Rattle.hv_ifexpr.specs.Grammar.{Tree, level, sign, Derives, a_number, a_parenthesized, a_unary, a_binary, a_conditional, a_higher, value}
+use Rattle.hv_ifexpr.specs.Machine.{State, want, have, reduced, reduce, step, run, after_operator, after_question, after_colon, after_close, after_end}
 use Rattle.hv_ifexpr.specs.Values.{binary_value, unary_value, conditional_value}
 use Rattle.hv_ifexpr.specs.declared.machine.Frame.{Frame}
 use Rattle.hv_ifexpr.specs.declared.machine.Frame.TheVariants.{Parenthesis, Unary, Binary, Then, Else}
@@ -14,7 +14,7 @@ use Rattle.hv_ifexpr.specs.declared.operator.Binary.TheVariants.{Multiply, Divid
 use Rattle.hv_ifexpr.specs.declared.operator.Unary.{Unary as UnaryOperator}
 use Rattle.hv_ifexpr.specs.declared.operator.Unary.TheVariants.{Plus, Minus, Complement, Not}
 use Rattle.hv_ifexpr.specs.declared.symbol.Symbol.{Symbol}
-use Rattle.hv_ifexpr.specs.declared.symbol.Symbol.TheVariants.{Number, Operator, Open, Close, Question, Colon, Other}
+use Rattle.hv_ifexpr.specs.declared.symbol.Symbol.TheVariants.{Number, Operator, Open, Close, Question, Colon}
 
 pub level-pos : (op : BinaryOperator) → 1 ≤ level op
 level-pos Multiply = omega arith

@@ -1,3 +1,4 @@
+mod Examples
 pub mod Completeness
 pub mod Numbers
 pub mod Soundness

@@ -1,10 +1,10 @@
 -- What the machine reads, the grammar derives.
-use Rattle.std.proofs.Common.{◌≡◌, ℕ, zero, suc, ◌+◌, ◌-◌, ◌<◌, ◌≤◌, Bool, true, false, cond, List, [], ◌∷◌, ◌++◌, refl, sym, ap, ◌∙◌, append_assoc, arith, Option, Some, None, subst}
+use Rattle.std.proofs.Common.{◌≡◌, ℕ, zero, suc, ◌+◌, ◌-◌, ◌≤◌, true, false, cond, List, [], ◌∷◌, ◌++◌, refl, sym, ap, ◌∙◌, append_assoc, arith, Option, Some, None, subst}
 use Rattle.std.proofs.lemmas.List.{append-nil}
 use Rattle.std.proofs.lemmas.Bool.Decides.{nat_tests}
 use Rattle.std.specs.Prelude.{nat_le, nat_eq, option_and_then}
 use Rattle.hv_ifexpr.specs.Grammar.{Tree, number, unary, binary, conditional, level, sign, Derives, a_number, a_parenthesized, a_unary, a_binary, a_conditional, a_higher, value}
-use Rattle.hv_ifexpr.specs.Machine.{State, want, have, Reduced, reduced, reduce, ends, applied, step, step_at, run, step_wanting, step_having, wanting_sign, sign_of, after_operator, after_question, after_colon, after_close, after_end, colon_at, close_at, end_at, finished}
+use Rattle.hv_ifexpr.specs.Machine.{State, want, Reduced, reduced, reduce, step_at, run, step_wanting, step_having, wanting_sign, sign_of, after_operator, after_question, colon_at, close_at, end_at, finished}
 use Rattle.hv_ifexpr.specs.Values.{binary_value, unary_value, conditional_value}
 use Rattle.hv_ifexpr.specs.declared.machine.Frame.{Frame}
 use Rattle.hv_ifexpr.specs.declared.machine.Frame.TheVariants.{Parenthesis, Unary, Binary, Then, Else}

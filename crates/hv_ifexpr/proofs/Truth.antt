@@ -1,6 +1,6 @@
 -- The answer to what the machine makes of an expression is its truth.
-use Rattle.std.proofs.Common.{◌≡◌, ℕ, Bool, true, false, List, [], refl, sym, ap, ◌∙◌, subst, Option, Some, None}
-use Rattle.std.specs.Prelude.{option_and_then, IfOk, IfErr, Result, Ok, Err}
+use Rattle.std.proofs.Common.{◌≡◌, ℕ, Bool, List, [], refl, sym, ap, ◌∙◌, subst, Option, Some, None}
+use Rattle.std.specs.Prelude.{option_and_then, IfOk, IfErr, Result}
 use Rattle.hv_toks.specs.declared.token.PpTok.{PpTok}
 use Rattle.hv_ifexpr.specs.Answer.{decided, decided_by}
 use Rattle.hv_ifexpr.specs.Grammar.{Tree, IsExpression, IsTruth, symbols, truth, truth_of, value}

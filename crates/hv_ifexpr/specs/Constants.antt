@@ -1,6 +1,6 @@
 -- Integer constants (6.4.4.1) and character constants (6.4.4.4), as 6.10.1 has them: all of 64 bits.
 -- Not in here: wide character constants and those of several characters, which are no constants.
-use Rattle.std.specs.Prelude.{ℕ, ◌+◌, ◌-◌, ◌*◌, ◌^◌, Bool, true, false, cond, not, ◌&&◌, ◌||◌, ◌==◌, nat_le, nat_lt, List, [], ◌∷◌, codes, Option, Some, None, option_and_then, take, drop, length, slice_index}
+use Rattle.std.specs.Prelude.{ℕ, ◌+◌, ◌-◌, ◌*◌, ◌^◌, Bool, true, false, cond, ◌&&◌, ◌||◌, ◌==◌, nat_le, nat_lt, List, [], ◌∷◌, Option, Some, None, option_and_then, take, drop, length, slice_index}
 use Rattle.std.specs.List.{list_any, position_or_len}
 use Rattle.std.specs.Str.{bytes_eq}
 use Rattle.hv_ifexpr.specs.declared.operand.Operand.{Operand}

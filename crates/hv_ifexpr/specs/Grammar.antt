@@ -1,5 +1,7 @@
--- The grammar of controlling expressions, and the value of what it derives.
-use Rattle.std.specs.Prelude.{ℕ, suc, ◌≡◌, Bool, List, [], ◌∷◌, ◌++◌, map, Option, Some, None, option_and_then}
+-- The grammar of controlling expressions (6.6, 6.10.1), and the value of what it derives.
+-- Not in here: assignment, comma, casts, `sizeof`, `++`, `--`, `&` and `*` before an operand, and `defined`,
+-- which is replaced before.
+use Rattle.std.specs.Prelude.{ℕ, suc, ◌≡◌, Bool, List, [], ◌∷◌, ◌++◌, map, Option, Some, option_and_then}
 use Rattle.hv_toks.specs.declared.token.PpTok.{PpTok}
 use Rattle.hv_ifexpr.specs.Symbols.{symbol_of}
 use Rattle.hv_ifexpr.specs.Values.{binary_value, unary_value, conditional_value, is_nonzero}
@@ -9,7 +11,7 @@ use Rattle.hv_ifexpr.specs.declared.operator.Binary.TheVariants.{Multiply, Divid
 use Rattle.hv_ifexpr.specs.declared.operator.Unary.{Unary}
 use Rattle.hv_ifexpr.specs.declared.operator.Unary.TheVariants.{Plus, Minus, Complement, Not}
 use Rattle.hv_ifexpr.specs.declared.symbol.Symbol.{Symbol}
-use Rattle.hv_ifexpr.specs.declared.symbol.Symbol.TheVariants.{Number, Operator, Open, Close, Question, Colon, Other, Complement as ComplementSign, Not as NotSign}
+use Rattle.hv_ifexpr.specs.declared.symbol.Symbol.TheVariants.{Number, Operator, Open, Close, Question, Colon, Complement as ComplementSign, Not as NotSign}
 
 pub data Tree : Type 0 where
   number : Operand → Tree

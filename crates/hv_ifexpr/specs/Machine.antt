@@ -1,6 +1,6 @@
 -- The machine that evaluates controlling expressions: it goes over the symbols once, and keeps what is not ended yet.
 use Rattle.std.specs.Prelude.{◌≡◌, ℕ, Bool, true, false, cond, nat_le, nat_eq, List, [], ◌∷◌, Option, Some, None, option_and_then}
-use Rattle.hv_ifexpr.specs.Grammar.{level, truth_of}
+use Rattle.hv_ifexpr.specs.Grammar.{level}
 use Rattle.hv_ifexpr.specs.Values.{binary_value, unary_value, conditional_value}
 use Rattle.hv_ifexpr.specs.declared.machine.Frame.{Frame}
 use Rattle.hv_ifexpr.specs.declared.machine.Frame.TheVariants.{Parenthesis, Unary, Binary, Then, Else}
@@ -10,7 +10,7 @@ use Rattle.hv_ifexpr.specs.declared.operator.Binary.TheVariants.{Add, Subtract}
 use Rattle.hv_ifexpr.specs.declared.operator.Unary.{Unary as UnaryOperator}
 use Rattle.hv_ifexpr.specs.declared.operator.Unary.TheVariants.{Plus, Minus, Complement, Not}
 use Rattle.hv_ifexpr.specs.declared.symbol.Symbol.{Symbol}
-use Rattle.hv_ifexpr.specs.declared.symbol.Symbol.TheVariants.{Number, Operator, Open, Close, Question, Colon, Other, Complement as ComplementSign, Not as NotSign}
+use Rattle.hv_ifexpr.specs.declared.symbol.Symbol.TheVariants.{Number, Operator, Open, Close, Question, Colon, Complement as ComplementSign, Not as NotSign}
 
 -- what stands open, the innermost first, and the operand behind it, if one is complete
 pub record State : Type 0 where

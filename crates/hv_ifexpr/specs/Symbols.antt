@@ -1,5 +1,6 @@
 -- What a token is to the grammar of controlling expressions.
-use Rattle.std.specs.Prelude.{ℕ, Bool, true, false, cond, ◌==◌, List, [], ◌∷◌, codes, Option, Some, None}
+-- Not in here: punctuators that stand in no such expression, strings and header names, which are all `Other`.
+use Rattle.std.specs.Prelude.{ℕ, false, cond, ◌==◌, List, [], ◌∷◌, codes, Option, Some, None}
 use Rattle.std.specs.Str.{bytes_eq}
 use Rattle.hv_toks.specs.declared.token.PpKind.{PpKind}
 use Rattle.hv_toks.specs.declared.token.PpKind.TheVariants.{Identifier, Number as NumberKind, CharConstant, StringLiteral, HeaderName, Punctuator, Other as OtherKind}

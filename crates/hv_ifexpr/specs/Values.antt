@@ -1,6 +1,6 @@
 -- The values of expressions (6.5.3 to 6.5.15), as 6.10.1 has them: of 64 bits, signed or unsigned.
 -- The value of a signed operand is that of its bits in two's complement; signed results wrap.
-use Rattle.std.specs.Prelude.{ℕ, zero, suc, ◌+◌, ◌-◌, ◌*◌, ◌/◌, ◌%◌, ◌^◌, Bool, true, false, cond, not, ◌||◌, nat_eq, nat_lt, Option, Some, None, option_and_then, ℤ, int_lt, int_div, int_rem, bit_and, bit_or, bit_xor}
+use Rattle.std.specs.Prelude.{ℕ, ◌+◌, ◌-◌, ◌*◌, ◌/◌, ◌%◌, ◌^◌, Bool, true, false, cond, not, ◌||◌, nat_eq, nat_lt, Option, Some, None, option_and_then, ℤ, int_lt, int_div, int_rem, bit_and, bit_or, bit_xor}
 use Rattle.std.specs.Int.{cast_signed, cast_unsigned, int_shr, bit_not, w64}
 use Rattle.hv_ifexpr.specs.declared.operand.Operand.{Operand}
 use Rattle.hv_ifexpr.specs.declared.operator.Binary.{Binary}
@@ -33,7 +33,7 @@ quotient is_unsigned x y = cond (nat_eq y 0) None (Some (cond is_unsigned (x / y
 abbrev pub remainder : Bool → ℕ → ℕ → Option ℕ
 remainder is_unsigned x y = cond (nat_eq y 0) None (Some (cond is_unsigned (x % y) (cast_unsigned w64 (int_rem (signed x) (signed y)))))
 
--- 6.5.7: no value where the amount is negative, which its bits as a number exceed 63 for, or at least 64
+-- 6.5.7: no value where the amount is at least 64 or negative; the bits of a negative one, as a number, are above 63 too
 abbrev pub left_shifted : ℕ → ℕ → Option ℕ
 left_shifted x y = cond (nat_lt y 64) (Some ((x * 2 ^ y) % 2 ^ 64)) None
 

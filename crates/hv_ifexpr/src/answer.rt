@@ -9,7 +9,7 @@ use crate::{IfFault, Operand};
 use hv_toks::PpTok;
 use std::alloc::Global;
 
-/// Whether the value is other than zero.
+/// Whether there is a value and it is other than zero.
 fn decide(value: Option<Operand>) -> Result<bool, IfFault>
     ensures { result ≡ decided value }
 {
@@ -26,7 +26,7 @@ fn decide(value: Option<Operand>) -> Result<bool, IfFault>
 
 /// Whether the controlling expression of `#if` or `#elif` that these tokens are, after expansion and with
 /// each `defined` replaced by `1` or `0`, is true (ISO/IEC 9899:1999, 6.10.1). The answer is `Bad` exactly
-/// where they are no such expression, or one without a value. The machine's memory comes from `alloc`.
+/// where they are no such expression, or one without a value. Memory comes from `alloc`.
 pub fn evaluate(alloc: Global, tokens: &[PpTok]) -> Result<bool, IfFault>
     ensures ok { IfOk result (IsTruth tokens.now) }
     ensures only { IfOk result (λ b. (tree : Tree) → IsExpression tokens.now tree → truth tree ≡ Some b) }

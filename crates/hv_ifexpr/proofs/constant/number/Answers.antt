@@ -1,5 +1,4 @@
-use Rattle.std.proofs.Common.{◌≡◌, ◌<◌, length, arith, refl, sym, ◌∙◌}
-use Rattle.std.proofs.lemmas.Bool.Decides.{nat_tests}
+use Rattle.std.proofs.Common.{◌<◌, length, refl, sym, ◌∙◌}
 use Rattle.hv_ifexpr.proofs.Numbers.{continued_more, continued_none, continued_all, number_nonempty, some_from}
 use Rattle.hv_ifexpr.proofs.constant.number.Goals as goal
 
