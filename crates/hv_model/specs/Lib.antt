@@ -1,0 +1,17 @@
+pub mod Bytes
+pub mod Codes
+pub mod Conds
+pub mod Config
+pub mod Grammar
+pub mod Known
+pub mod Line
+pub mod Lines
+pub mod Machine
+pub mod Model
+pub mod ModelKind
+pub mod Name
+pub mod Parsed
+pub mod Rule
+pub mod Said
+pub mod Steps
+pub mod Token

@@ -1,0 +1,241 @@
+//! Reading rules.
+ghost use Rattle.std.specs.Prelude.{◌≡◌, ◌∷◌, ◌<◌, ◌≤◌, ◌+◌, true, false, None, length, reverse, if◌then◌else◌, IfOk, IfSome, OnOk};
+
+use crate::code::{Code, Step};
+use crate::name::is_name;
+use crate::names::Names;
+use crate::scan::Token;
+use std::alloc::{AllocError, Global};
+
+/// How many parentheses may be open at once, and how many `!` may stand in a row.
+const MOST: u16 = 256;
+
+/// What stands before an operand within its parentheses.
+#[derive(Clone, Copy, Debug, PartialEq, Eq)]
+pub(crate) struct Frame {
+    /// How many `!` stand directly before it.
+    pub(crate) negations: u16,
+    /// Whether the operand is the right side of `&&`.
+    pub(crate) conjunct: bool,
+    /// Whether it stands in the right side of `||`.
+    pub(crate) disjunct: bool,
+    /// Whether it stands in the right side of `=>`.
+    pub(crate) premise: bool,
+}
+
+impl Frame {
+    const EMPTY: Frame = Frame {
+        negations: 0,
+        conjunct: false,
+        disjunct: false,
+        premise: false,
+    };
+}
+
+/// A rule that is being read, token by token.
+#[derive(Debug, Drop)]
+pub(crate) struct Parser {
+    /// The code of what is read so far.
+    pub(crate) code: Code,
+    /// What stands before the open parentheses, the innermost last.
+    pub(crate) outer: Vec<Frame>,
+    /// What stands before the next operand, or around the last one, in the innermost parentheses.
+    pub(crate) top: Frame,
+    /// Whether an operand comes next.
+    pub(crate) wants: bool,
+}
+
+impl Parser {
+    ghost use Rattle.hv_model.specs.Machine.{IsSaid, IsTaken, after_close, completed, expr_done, finished, frame, have, is_allowed, limited_step, or_done, start, step_having, step_wanting, want};
+    ghost use Rattle.hv_model.specs.Parsed.{machine_of};
+    ghost use Rattle.hv_model.specs.Said.{said};
+    ghost use Rattle.hv_model.specs.Rule.{option};
+    ghost use Rattle.hv_model.specs.Steps.{items_of, supposed, supposed_too, value};
+
+    pub(crate) fn new(alloc: Global) -> Parser
+        ensures { machine_of result ≡ start }
+    {
+        Parser {
+            code: Code::new(alloc),
+            outer: Vec::new(alloc),
+            top: Frame::EMPTY,
+            wants: true,
+        }
+    }
+
+    /// Ends an operand: what stands directly before it is applied to it.
+    fn complete(&mut self) -> Result<(), AllocError>
+        ensures { OnOk result (machine_of self.new ≡ completed self.old.top (reverse self.old.outer.items) (items_of self.old.code)) }
+    {
+        self.code.negate(self.top.negations)?;
+        self.code.operate_if(self.top.conjunct, Step::And)?;
+        self.top.negations = 0;
+        self.top.conjunct = false;
+        self.wants = false;
+        Ok(())
+    }
+
+    /// Takes the option of this number as an operand.
+    fn operand(&mut self, place: u16) -> Result<(), AllocError>
+        requires { length (items_of self.old.code) < 1024 }
+        ensures { OnOk result (machine_of self.new ≡ completed self.old.top (reverse self.old.outer.items) (value (option place) ∷ items_of self.old.code)) }
+    {
+        self.code.emit(Step::Option(place))?;
+        self.complete()
+    }
+
+    /// Takes an opening parenthesis.
+    fn open(&mut self) -> Result<(), AllocError>
+        requires { self.old.wants ≡ true }
+        ensures { OnOk result (machine_of self.new ≡ want (frame 0 false false false) (self.old.top ∷ reverse self.old.outer.items) (items_of self.old.code)) }
+    {
+        self.outer.push(self.top)?;
+        self.top = Frame::EMPTY;
+        Ok(())
+    }
+
+    /// Takes a token where an operand is wanted, and says whether it may stand there.
+    fn take_wanting(&mut self, names: &Names, token: Token<'_>) -> Result<bool, AllocError>
+        requires wants { self.old.wants ≡ true }
+        requires room { length (items_of self.old.code) < 1024 }
+        ensures { IfOk result (λ went. IsTaken (if is_allowed (machine_of self.old) (said token.entry)
+            then step_wanting names.now self.old.top (reverse self.old.outer.items) (items_of self.old.code) (said token.entry) else None) went (machine_of self.new)) }
+    {
+        match token {
+            Token::Word(name) if is_name(name) => self.operand(names.place(name))?,
+            Token::Negate if self.top.negations < MOST => self.top.negations += 1,
+            Token::Open if self.outer.len() < MOST as usize => self.open()?,
+            _ => return Ok(false),
+        }
+        Ok(true)
+    }
+
+    /// Ends the right side of `||`.
+    fn end_either(&mut self) -> Result<(), AllocError>
+        ensures items { OnOk result (items_of self.new.code ≡ or_done self.old.top (items_of self.old.code)) }
+        ensures outer { OnOk result (self.new.outer.items ≡ self.old.outer.items) }
+        ensures top { OnOk result (self.new.top ≡ self.old.top) }
+    {
+        self.code.operate_if(self.top.disjunct, Step::Or)
+    }
+
+    /// Ends the right side of `=>`.
+    fn end_expr(&mut self) -> Result<(), AllocError>
+        ensures items { OnOk result (items_of self.new.code ≡ expr_done self.old.top (items_of self.old.code)) }
+        ensures outer { OnOk result (self.new.outer.items ≡ self.old.outer.items) }
+        ensures top { OnOk result (self.new.top ≡ self.old.top) }
+    {
+        self.end_either()?;
+        self.code.operate_if(self.top.premise, Step::Conclude)
+    }
+
+    /// Takes `||`.
+    fn either(&mut self) -> Result<(), AllocError>
+        ensures { OnOk result (machine_of self.new ≡ want (frame 0 false true self.old.top.premise) (reverse self.old.outer.items) (or_done self.old.top (items_of self.old.code))) }
+    {
+        self.end_either()?;
+        self.top = Frame {
+            negations: 0,
+            conjunct: false,
+            disjunct: true,
+            premise: self.top.premise,
+        };
+        self.wants = true;
+        Ok(())
+    }
+
+    /// Takes `=>`.
+    fn implies(&mut self) -> Result<(), AllocError>
+        ensures { OnOk result (machine_of self.new ≡ want (frame 0 false false true) (reverse self.old.outer.items)
+            (if self.old.top.premise then supposed_too (or_done self.old.top (items_of self.old.code)) else supposed (or_done self.old.top (items_of self.old.code)))) }
+    {
+        self.end_either()?;
+        self.suppose()?;
+        self.top = Frame {
+            negations: 0,
+            conjunct: false,
+            disjunct: false,
+            premise: true,
+        };
+        self.wants = true;
+        Ok(())
+    }
+
+    /// Makes the value on the stack a premise.
+    fn suppose(&mut self) -> Result<(), AllocError>
+        ensures items { OnOk result (items_of self.new.code ≡ (if self.old.top.premise then supposed_too (items_of self.old.code) else supposed (items_of self.old.code))) }
+        ensures outer { OnOk result (self.new.outer.items ≡ self.old.outer.items) }
+    {
+        let step = if self.top.premise {
+            Step::SupposeToo
+        } else {
+            Step::Suppose
+        };
+        self.code.operate_if(true, step)
+    }
+
+    /// Takes a closing parenthesis, if one is open.
+    fn close(&mut self) -> Result<bool, AllocError>
+        ensures { IfOk result (λ went. IsTaken (after_close (reverse self.old.outer.items) (expr_done self.old.top (items_of self.old.code))) went (machine_of self.new)) }
+    {
+        self.end_expr()?;
+        let Some(frame) = self.outer.pop() else {
+            return Ok(false);
+        };
+        self.top = frame;
+        self.complete()?;
+        Ok(true)
+    }
+
+    /// Takes a token behind an operand, and says whether it may stand there.
+    fn take_having(&mut self, token: Token<'_>) -> Result<bool, AllocError>
+        ensures { IfOk result (λ went. IsTaken (step_having self.old.top (reverse self.old.outer.items) (items_of self.old.code) (said token.entry)) went (machine_of self.new)) }
+    {
+        match token {
+            Token::Both => {
+                self.top = Frame {
+                    negations: 0,
+                    conjunct: true,
+                    disjunct: self.top.disjunct,
+                    premise: self.top.premise,
+                };
+                self.wants = true;
+            }
+            Token::Either => self.either()?,
+            Token::Implies => self.implies()?,
+            Token::Close => return self.close(),
+            _ => return Ok(false),
+        }
+        Ok(true)
+    }
+
+    /// Takes a token, and says whether it may stand there.
+    pub(crate) fn take(&mut self, names: &Names, token: Token<'_>) -> Result<bool, AllocError>
+        requires { length (items_of self.old.code) < 1024 }
+        ensures { IfOk result (λ went. IsTaken (limited_step names.now (machine_of self.old) (said token.entry)) went (machine_of self.new)) }
+    {
+        if self.wants {
+            self.take_wanting(names, token)
+        } else {
+            self.take_having(token)
+        }
+    }
+
+    /// Ends the rule, if it may end here.
+    pub(crate) fn finish(mut self) -> Result<Option<Code>, AllocError>
+        ensures said { IfOk result (IsSaid (finished (machine_of self))) }
+        ensures items { IfOk result (λ code. IfSome code (λ steps. items_of steps ≡ expr_done self.top (items_of self.code))) }
+    {
+        if self.wants || !self.outer.is_empty() {
+            return Ok(None);
+        }
+        self.end_expr()?;
+        let Parser {
+            code,
+            outer: _,
+            top: _,
+            wants: _,
+        } = self;
+        Ok(Some(code))
+    }
+}

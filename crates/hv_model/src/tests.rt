@@ -1,0 +1,148 @@
+use super::*;
+use hv_base::{Config, List};
+use hv_cond::Store;
+use std::alloc::Global;
+use std::process::Abort;
+use std::test::Fail;
+
+#[test]
+fn model_files_have_their_first_fault(rt: HostRuntime) {
+    let table = [
+        ("", None),
+        (
+            "\n \t# option\n\toption  A \r\n \noption B\nrule(A=>!B)||B",
+            None,
+        ),
+        ("option A\nrule A&&B\n", Some((2, ModelKind::Unknown))),
+        ("rule int\n", Some((1, ModelKind::Unknown))),
+        ("rule hv_x\n", Some((1, ModelKind::Unknown))),
+        ("rule B &&\noption A\n", Some((1, ModelKind::BadLine))),
+        ("option A\nrule!A\nruleA\n", Some((3, ModelKind::BadLine))),
+        ("option A\nrule\n", Some((2, ModelKind::BadLine))),
+        ("option A\nrule A & A\n", Some((2, ModelKind::BadLine))),
+        ("option A\nrule (A\n", Some((2, ModelKind::BadLine))),
+        ("option A\nrule A)\n", Some((2, ModelKind::BadLine))),
+        ("option A B\n", Some((1, ModelKind::BadLine))),
+        ("option 1A\n", Some((1, ModelKind::BadLine))),
+        ("option int\n", Some((1, ModelKind::BadLine))),
+        ("option hv_x\n", Some((1, ModelKind::BadLine))),
+        ("option A\r\r\n", Some((1, ModelKind::BadLine))),
+        (
+            "option A\n\noption A\nrule\n",
+            Some((3, ModelKind::Repeated)),
+        ),
+        (
+            "option A\nrule A\nrule !A\n",
+            Some((0, ModelKind::NoConfiguration)),
+        ),
+        (
+            "option A\nrule A && !A\nbad\n",
+            Some((3, ModelKind::BadLine)),
+        ),
+    ];
+    for (text, fault) in table {
+        let found = match read_model(rt.alloc(), text.as_bytes()) {
+            Ok(_) => None,
+            Err(ModelRefusal::Bad(found)) => Some((found.line, found.kind)),
+            Err(ModelRefusal::Memory) => Some((u64::MAX, ModelKind::BadLine)),
+        };
+        assert_eq!(rt; found, fault, "at {text:?}");
+    }
+}
+
+/// The valid configurations of three options under a rule: bit k stands for the k-th, A being the lowest bit of k.
+fn valid_configurations(rt: &impl Abort, alloc: Global, rule: &str) -> Result<u32, Fail> {
+    let text = format!(in alloc; "option A\noption B\noption C\nrule {rule}\n")?;
+    let Ok(model) = read_model(alloc, text.as_bytes()) else {
+        return Ok(0);
+    };
+    assert_eq!(rt; model.options(), 3);
+    let mut store = Store::new(alloc, 3)?;
+    let valid = valid_cond(&model, &mut store)?;
+    let mut found = 0u32;
+    for k in 0..8u32 {
+        let on = [k % 2 == 1, k / 2 % 2 == 1, k / 4 == 1];
+        let config = Config {
+            on: List::from_slice(alloc, &on)?,
+        };
+        let is_valid = is_valid(&model, &config);
+        assert_eq!(rt; store.eval(valid, &on), is_valid);
+        if is_valid {
+            found |= 1 << k;
+        }
+    }
+    Ok(found)
+}
+
+#[test]
+fn rules_have_their_truth_tables(rt: HostRuntime) -> Result<(), Fail> {
+    let table = [
+        ("A", 0b1010_1010),
+        ("!A", 0b0101_0101),
+        ("A && B", 0b1000_1000),
+        ("A || B", 0b1110_1110),
+        ("A => B", 0b1101_1101),
+        ("A || B && C", 0b1110_1010),
+        ("(A || B) && C", 0b1110_0000),
+        ("A => B => C", 0b1111_0111),
+        ("(A => B) => C", 0b1111_0010),
+        ("A => B || C", 0b1111_1101),
+        ("!A && B || !!C", 0b1111_0100),
+        ("!(A => B) => C && A", 0b1111_1101),
+    ];
+    for (rule, configurations) in table {
+        assert_eq!(rt;
+            valid_configurations(&rt, rt.alloc(), rule)?,
+            configurations,
+            "at {rule:?}"
+        );
+    }
+    Ok(())
+}
+
+#[test]
+fn texts_of_configurations(rt: HostRuntime) -> Result<(), Fail> {
+    let Ok(model) = read_model(rt.alloc(), b"option A\noption B\noption C\n") else {
+        return Err("no model".into());
+    };
+    let table = [
+        ("", Ok("")),
+        ("A", Ok("A")),
+        ("C,A", Ok("A,C")),
+        ("B,C,A", Ok("A,B,C")),
+        ("D", Err(ConfigFault::Unknown { piece: 0 })),
+        ("A,", Err(ConfigFault::Unknown { piece: 1 })),
+        (",", Err(ConfigFault::Unknown { piece: 0 })),
+        ("A, B", Err(ConfigFault::Unknown { piece: 1 })),
+        ("A,B,A,D", Err(ConfigFault::Repeated { piece: 2 })),
+    ];
+    for (text, answer) in table {
+        match (read_config(rt.alloc(), &model, text), answer) {
+            (Ok(config), Ok(printed)) => {
+                assert_eq!(rt; config.on.len(), model.options());
+                let text = print_config(rt.alloc(), &model, &config)?;
+                assert_eq!(rt; text.as_slice(), printed.as_bytes());
+            }
+            (Err(fault), Err(expected)) => assert_eq!(rt; fault, expected),
+            _ => assert!(rt; false, "at {text:?}"),
+        }
+    }
+    Ok(())
+}
+
+#[test]
+fn long_chains_and_deep_rules(rt: HostRuntime) -> Result<(), Fail> {
+    for (part, line) in [(" => A", 0), (" && A", 0), ("(", 2), ("!", 2)] {
+        let mut text = String::from_str(rt.alloc(), "option A\nrule A")?;
+        for _ in 0..100_000u32 {
+            text.push_str(part)?;
+        }
+        let found = match read_model(rt.alloc(), text.as_bytes()) {
+            Ok(_) => 0,
+            Err(ModelRefusal::Bad(fault)) => fault.line,
+            Err(ModelRefusal::Memory) => 9,
+        };
+        assert_eq!(rt; found, line, "at {part:?}");
+    }
+    Ok(())
+}
