@@ -1,1 +1,3 @@
 mod AlternativeLemmas
+mod KeyLemmas
+mod TableLemmas

@@ -2,6 +2,8 @@
 #![tactic(auto)]
 
 mod alternatives;
+mod tables;
 
 pub use alternatives::Alternative;
 pub use hv_toks::{Body, Meaning};
+pub use tables::MacroTable;
