@@ -1,3 +1,4 @@
 mod AlternativeLemmas
+mod BeginningLemmas
 mod KeyLemmas
 mod TableLemmas

@@ -2,6 +2,7 @@
 #![tactic(auto)]
 
 mod alternatives;
+mod beginnings;
 mod tables;
 
 pub use alternatives::Alternative;

@@ -23,7 +23,7 @@ pub struct MacroTable {
 }
 
 impl MacroTable {
-    fn empty(alloc: Global) -> MacroTable
+    pub(crate) fn empty(alloc: Global) -> MacroTable
         ensures { (name : List ℕ) → kept result name ≡ [] }
     {
         MacroTable {
