@@ -3,11 +3,13 @@
 #![tactic(auto)]
 
 mod front;
+mod macros;
 mod stream;
 mod token;
 
 pub use front::{Front, Line, Match};
 pub use hv_base::{CTok, IntType, Keyword, Punct};
+pub use macros::{Body, Meaning};
 pub use stream::{Classified, Failing, Parted, Stream, StreamTok, project};
 pub use token::{PpKind, PpTok};
 

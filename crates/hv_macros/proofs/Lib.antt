@@ -1,0 +1,4 @@
+mod AlternativeLemmas
+mod BeginningLemmas
+mod KeyLemmas
+mod TableLemmas

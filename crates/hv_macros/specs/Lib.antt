@@ -1,0 +1,4 @@
+pub mod Alternatives
+pub mod Macro
+pub mod State
+pub mod Table
