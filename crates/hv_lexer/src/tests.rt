@@ -154,7 +154,8 @@ fn is_spelled(tokens: &[PpTok], spellings: &str) -> bool {
 
 #[test]
 fn the_examples_of_the_standard_are_cut(rt: HostRuntime) -> Result<(), Fail> {
-    // 6.4 paragraphs 5 and 6, 6.4.9 paragraph 3, and splices within tokens of each kind.
+    // 6.4 paragraphs 5 and 6, 6.4.9 paragraph 3, 6.10.3.5 paragraphs 5 to 7, and splices within tokens of each
+    // kind.
     let table = [
         ("1Ex", "1Ex"),
         ("x+++++y", "x ++ ++ + y"),
@@ -167,6 +168,15 @@ fn the_examples_of_the_standard_are_cut(rt: HostRuntime) -> Result<(), Fail> {
         ("glue(/,/) k();", "glue ( / , / ) k ( ) ;"),
         ("/*//*/ l();", "l ( ) ;"),
         ("m = n//**/o\n + p;", "m = n + p ;"),
+        (
+            "g(x+(3,4)-w) | h 5) & m\n\t(f)^m(m);",
+            "g ( x + ( 3 , 4 ) - w ) | h 5 ) & m ( f ) ^ m ( m ) ;",
+        ),
+        (
+            "fputs(str(strncmp(\"abc\\0d\", \"abc\", '\\4') // this goes away\n== 0) str(: @\\n), s);",
+            "fputs ( str ( strncmp ( \"abc\\0d\" , \"abc\" , '\\4' ) == 0 ) str ( : @ \\ n ) , s ) ;",
+        ),
+        ("#define hash_hash # ## #", "# define hash_hash # ## #"),
         ("<\\\n<\\\n=", "<<="),
         ("'\\\\\nn'", "'\\n'"),
         ("\"a\\\r\nb\"", "\"ab\""),
@@ -183,6 +193,26 @@ fn the_examples_of_the_standard_are_cut(rt: HostRuntime) -> Result<(), Fail> {
             is_spelled(tokens.as_slice(), spellings)
         };
         assert!(rt; fits, "at {text}");
+    }
+    Ok(())
+}
+
+#[test]
+fn a_splice_may_stand_at_every_offset(rt: HostRuntime) -> Result<(), Fail> {
+    let text = "ab<<=0x1p+3'c'\"s\"/*c*/.5";
+    for splice in ["\\\n", "\\\r\n"] {
+        for at in 0..=text.len() {
+            let (Some(head), Some(tail)) = (text.as_bytes().get(..at), text.as_bytes().get(at..))
+            else {
+                return Err(Fail::from("no such offset"));
+            };
+            let mut bytes = Vec::from_slice(rt.alloc(), head)?;
+            bytes.extend_from_slice(splice.as_bytes())?;
+            bytes.extend_from_slice(tail)?;
+            let tokens = lex(rt.alloc(), 0, bytes.as_slice())?;
+            let fits = is_spelled(tokens.as_slice(), "ab <<= 0x1p+3 'c' \"s\" .5");
+            assert!(rt; fits, "at {at}");
+        }
     }
     Ok(())
 }
