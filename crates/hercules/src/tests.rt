@@ -2,8 +2,9 @@ ghost use Rattle.std.specs.Prelude.{◌<◌};
 
 use hv_base::{Config, List, Text};
 use hv_encode::hercules;
+use hv_model::{Model, read_model};
 use hv_outside::{MemFiles, MemSink, SafeSink, SafeSource};
-use hv_plain::{Model, read_model, small_run};
+use hv_plain::small_run;
 use std::alloc::{AllocError, Global};
 use std::test::Fail;
 
@@ -211,6 +212,75 @@ fn other_sources_are_left_out(rt: HostRuntime) -> Result<(), Fail> {
     Ok(())
 }
 
+const EITHER_A_OR_B: &str = "option A\noption B\nrule A => !B\nrule A || B\n";
+
+#[test]
+fn statements_without_a_valid_configuration_are_left_out(rt: HostRuntime) -> Result<(), Fail> {
+    let body = "#ifdef A\n#ifdef B\nputchar(49);\n#else\nputchar(50);\n#endif\n#else\n#ifdef B\nputchar(51);\n#else\nputchar(52);\n#endif\n#endif\nputchar(53);\n";
+    let ended = encode(
+        rt.alloc(),
+        EITHER_A_OR_B,
+        with_body(rt.alloc(), body)?.as_str(),
+    )?;
+    assert_eq!(rt; ended.status, 0);
+    assert_eq!(rt;
+        ended.out.bytes(),
+        b"extern int hv_opt_A ;\nextern int hv_opt_B ;\nint putchar ( int ) ;\nint main ( void ) {\nif ( hv_opt_A && ! hv_opt_B ) putchar ( 50 ) ;\nif ( ! hv_opt_A && hv_opt_B ) putchar ( 51 ) ;\nputchar ( 53 ) ;\n}\n".as_slice()
+    );
+    let model = read_model(rt.alloc(), EITHER_A_OR_B.as_bytes())?;
+    let table = [([true, false], "25"), ([false, true], "35")];
+    for (values, wanted) in table {
+        let got = output(rt.alloc(), &model, ended.out.bytes(), &values)?;
+        assert_eq!(rt;
+            got.as_ref().map(|text| text.as_slice()),
+            Some(wanted.as_bytes())
+        );
+    }
+    Ok(())
+}
+
+#[test]
+fn the_least_valid_configuration_is_blamed(rt: HostRuntime) -> Result<(), Fail> {
+    let ended = encode(rt.alloc(), EITHER_A_OR_B, "int x;\n")?;
+    assert_eq!(rt; ended.status, 1);
+    assert_eq!(rt;
+        ended.err.bytes(),
+        b"hercules: fails config=B file=main.c line=1 offset=0 via=- why=14 LeftOut\n".as_slice()
+    );
+    assert_eq!(rt; ended.out.bytes().len(), 0);
+    Ok(())
+}
+
+/// The options O1 to O60, and a source that puts the byte 64 + i where option Oi is on.
+fn sixty_options(alloc: Global) -> Result<(String, String), AllocError> {
+    let mut model = String::new(alloc);
+    let mut body = String::new(alloc);
+    for i in 1..61u32 {
+        let number = i.to_string(alloc)?;
+        let byte = (64 + i).to_string(alloc)?;
+        model.push_str(format!(in alloc; "option O{number}\n")?.as_str())?;
+        body.push_str(format!(in alloc; "#ifdef O{number}\nputchar({byte});\n#endif\n")?.as_str())?;
+    }
+    Ok((model, with_body(alloc, body.as_str())?))
+}
+
+#[test]
+fn sixty_options_are_one_program(rt: HostRuntime) -> Result<(), Fail> {
+    let (text, source) = sixty_options(rt.alloc())?;
+    let ended = encode(rt.alloc(), text.as_str(), source.as_str())?;
+    assert_eq!(rt; ended.status, 0);
+    let model = read_model(rt.alloc(), text.as_bytes())?;
+    let mut values = vec![in rt.alloc(); false; 60]?;
+    values[0] = true;
+    values[2] = true;
+    let got = output(rt.alloc(), &model, ended.out.bytes(), values.as_slice())?;
+    assert_eq!(rt;
+        got.as_ref().map(|text| text.as_slice()),
+        Some(b"AC".as_slice())
+    );
+    Ok(())
+}
+
 #[test]
 fn words_and_models_are_refused(rt: HostRuntime) -> Result<(), Fail> {
     let words: [&[&str]; 5] = [
@@ -227,13 +297,30 @@ fn words_and_models_are_refused(rt: HostRuntime) -> Result<(), Fail> {
         assert_eq!(rt; ended.status, 2);
         assert_eq!(rt; ended.err.bytes(), b"hercules: bad words\n".as_slice());
     }
-    let ended = encode(rt.alloc(), "option A\noption A\n", PUTS_X_AND_A)?;
-    assert_eq!(rt; ended.status, 7);
-    assert_eq!(rt;
-        ended.err.bytes(),
-        b"hercules: model line=2 kind=2 Repeated\n".as_slice()
-    );
-    assert_eq!(rt; ended.out.bytes().len(), 0);
+    let models = [
+        (
+            "option A\noption A\n",
+            "hercules: model line=2 kind=2 Repeated\n",
+        ),
+        (
+            "option A\nrule A &&\n",
+            "hercules: model line=2 kind=1 BadLine\n",
+        ),
+        (
+            "option A\nrule A || B\noption B\n",
+            "hercules: model line=2 kind=3 Unknown\n",
+        ),
+        (
+            "option A\noption B\nrule A && B\nrule !A\n",
+            "hercules: model line=0 kind=5 NoConfiguration\n",
+        ),
+    ];
+    for (model, message) in models {
+        let ended = encode(rt.alloc(), model, PUTS_X_AND_A)?;
+        assert_eq!(rt; ended.status, 7, "at {model:?}");
+        assert_eq!(rt; ended.err.bytes(), message.as_bytes());
+        assert_eq!(rt; ended.out.bytes().len(), 0);
+    }
     Ok(())
 }
 

@@ -7,7 +7,8 @@ use Rattle.std.proofs.lemmas.List.Quantifiers.{position-Some}
 use Rattle.std.proofs.lemmas.List.Elements.{All-from_get_or, All-push, All-head, All-tail}
 use Rattle.std.proofs.lemmas.List.Splits.{slice_split_at, slice_split_none, join_with_byte-slice_split}
 use Rattle.std.proofs.lemmas.List.Sums.{fails_before_first}
-use Rattle.hv_plain.specs.Bytes.{is_newline, trimmed}
+use Rattle.hv_model.specs.Bytes.{is_newline}
+use Rattle.hv_plain.specs.Bytes.{trimmed}
 use Rattle.hv_plain.specs.Source as source
 use Rattle.hv_plain.specs.Source.{IsLine, spelled, put, if_defined, if_not_defined, otherwise, end_if}
 use Rattle.hv_encode.specs.declared.line.Line.{Line}

@@ -6,19 +6,22 @@ use Rattle.std.proofs.lemmas.List.{get_or-map, length-map}
 use Rattle.hv_plain.specs.Bytes.{is_gap}
 use Rattle.std.proofs.lemmas.List.Elements.{All-from_recursion, recursion_from_All, All-map, All-weaker, Contains-get_or, All-contains_itself}
 use Rattle.hv_plain.specs.Config.{is_on}
-use Rattle.hv_plain.specs.Name.{is_option_name, AllOptionNames}
+use Rattle.hv_model.specs.Name.{is_option_name, AllOptionNames}
+use Rattle.hv_model.specs.Rule.{Features}
 use Rattle.hv_plain.specs.Source.{IsSmallSource, kept, is_put}
-use Rattle.hv_plain.specs.Program.{Program, IsTyped, IsTypedStatement, IsProgramText, shown, program_tokens}
-use Rattle.hv_plain.specs.Run.{Run, ended, start, variable_of, variables_of, output_of, plain_statement, no_start, IsConcise, Encodes, RunsAsVariants}
+use Rattle.hv_plain.specs.Program.{Program, Statement, IsTyped, IsTypedStatement, IsProgramText, shown, program_tokens}
+use Rattle.hv_plain.specs.Run.{Run, ended, start, variable_of, variables_of, output_of, plain_statement, no_start, IsConcise, IsReached, Encodes, RunsAsVariants}
 use Rattle.hv_encode.specs.declared.line.Line.{Line}
 use Rattle.hv_encode.specs.declared.line.Line.TheVariants.{Put, IfDefined, IfNotDefined, Else, EndIf}
 use Rattle.hv_encode.specs.declared.lift.Group.{Group}
 use Rattle.hv_encode.specs.Lines.{name_at, plain, IsOption, IsKnown}
-use Rattle.hv_encode.specs.Lift.{test_in, lifted, product_of, opened}
+use Rattle.hv_encode.specs.Lift.{test_in, lifted, opened}
+use Rattle.hv_encode.specs.Presence.{Prunes, IsProductText, program_of}
 use Rattle.hv_encode.proofs.Semantics.{output-lifted}
 use Rattle.hv_encode.proofs.Sources.{body-unique}
 use Rattle.hv_encode.proofs.Tokens.{no_gap, IsGapless, IsGaplessStatement, variable_has_none, program_has_none, split-shown}
 use Rattle.hv_encode.proofs.Product.{lifted-all, test-all, test-concise}
+use Rattle.hv_encode.proofs.Pruning.{Prunes-all, Prunes-length, Prunes-output, Prunes-reached}
 
 output-plain : (value : List ℕ → ℕ) (bytes : List ℕ) → output_of value (map plain_statement bytes) ≡ bytes
 output-plain value [] = refl
@@ -47,14 +50,10 @@ module _ (names : List (List ℕ)) (named : AllOptionNames names) where
       let within : option < length (variables_of names) = rw (length-map names variable_of) is.within in
       rw place at (Contains-get_or (variables_of names) option [] within)
 
-  typed : (lines : List Line) → AllByRecursion (IsKnown names) lines → IsTyped (variables_of names) (product_of names lines)
-  typed lines known = record {
-    variables = All-contains_itself (variables_of names);
-    statements = All-from_recursion (IsTypedStatement (variables_of names)) (lifted names [] lines)
-        (lifted-all names (IsTypedStatement (variables_of names))
-        (λ byte groups small marked options. record { byte = small; test = test-all names (λ literal. Contains (variables_of names) literal.variable) (λ group is. contains_variable group.option is) groups options })
-        [] lines tt tt known);
-  }
+  typed_statements : (lines : List Line) → AllByRecursion (IsKnown names) lines → AllByRecursion (IsTypedStatement (variables_of names)) (lifted names [] lines)
+  typed_statements lines known = lifted-all names (IsTypedStatement (variables_of names))
+      (λ byte groups small marked options. record { byte = small; test = test-all names (λ literal. Contains (variables_of names) literal.variable) (λ group is. contains_variable group.option is) groups options })
+      [] lines tt tt known
 
   gapless_variables : AllByRecursion (λ variable. no_gap variable ≡ true) (variables_of names)
   gapless_variables = recursion_from_All (λ variable. no_gap variable ≡ true) (variables_of names)
@@ -65,19 +64,35 @@ module _ (names : List (List ℕ)) (named : AllOptionNames names) where
       (λ byte groups small marked options. record { byte = small; test = recursion_from_All IsGapless (test_in names groups) (test-all names IsGapless (λ group is. variable_has_none (name_at names group.option) (name_named group.option is)) groups options) })
       [] lines tt tt known
 
-  pub reads : (lines : List Line) → AllByRecursion (IsKnown names) lines → (text : List ℕ) → text ≡ shown (program_tokens (product_of names lines))
-      → IsProgramText (variables_of names) text (product_of names lines)
-  reads lines known text printed = record {
-    tokens = ap (slice_split is_gap) printed ∙ split-shown (program_tokens (product_of names lines)) (program_has_none (product_of names lines) gapless_variables (gapless_statements lines known));
-    typed = typed lines known;
+module _ (model : Features) (named : AllOptionNames model.names) (lines : List Line) (known : AllByRecursion (IsKnown model.names) lines) where
+  typed : (kept_statements : List Statement) → Prunes model (lifted model.names [] lines) kept_statements → IsTyped (variables_of model.names) (program_of model.names kept_statements)
+  typed kept_statements pruned = record {
+    variables = All-contains_itself (variables_of model.names);
+    statements = All-from_recursion (IsTypedStatement (variables_of model.names)) kept_statements
+        (Prunes-all model (IsTypedStatement (variables_of model.names)) pruned (typed_statements model.names named lines known));
   }
 
-module _ (names : List (List ℕ)) where
-  runs : (lines : List Line) (bytes : List ℕ) → IsSmallSource names bytes (map (plain names) lines) → RunsAsVariants names bytes (product_of names lines)
-  runs lines bytes small = record {
+  reads : (kept_statements : List Statement) → Prunes model (lifted model.names [] lines) kept_statements → (text : List ℕ) → text ≡ shown (program_tokens (program_of model.names kept_statements))
+      → IsProgramText (variables_of model.names) text (program_of model.names kept_statements)
+  reads kept_statements pruned text printed = record {
+    tokens = ap (slice_split is_gap) printed ∙ split-shown (program_tokens (program_of model.names kept_statements))
+        (program_has_none (program_of model.names kept_statements) (gapless_variables model.names named)
+        (Prunes-all model IsGaplessStatement pruned (gapless_statements model.names named lines known)));
+    typed = typed kept_statements pruned;
+  }
+
+  -- what is written of the declarations and the statements is the product's text
+  pub product_is : (kept_statements : List Statement) → Prunes model (lifted model.names [] lines) kept_statements → (text : List ℕ) → text ≡ shown (program_tokens (program_of model.names kept_statements)) → IsProductText model lines text
+  product_is kept_statements pruned text printed = record { kept = kept_statements; pruned = pruned; printed = printed; reads = reads kept_statements pruned text printed }
+
+module _ (model : Features) where
+  runs : (lines : List Line) (kept_statements : List Statement) → Prunes model (lifted model.names [] lines) kept_statements → (bytes : List ℕ) → IsSmallSource model.names bytes (map (plain model.names) lines)
+      → RunsAsVariants model bytes (program_of model.names kept_statements)
+  runs lines kept_statements pruned bytes small = record {
     agrees = λ values valid variant is input steps defined.
+        let names : List (List ℕ) = model.names in
         let body = body-unique names bytes is.body (map (plain names) lines) is.reads small in
-        let product : output_of (start names values) (lifted names [] lines) ≡ kept (is_on names values) [] (map (plain names) lines) = output-lifted names values [] lines tt in
+        let product : output_of (start names values) kept_statements ≡ kept (is_on names values) [] (map (plain names) lines) = sym (Prunes-output model values valid pruned) ∙ output-lifted names values [] lines tt in
         let kept_bytes : kept (is_on names values) [] (map (plain names) lines) ≡ kept (is_on names values) [] is.body = ap (kept (is_on names values) []) (sym body) in
         let plain_run : output_of no_start variant.statements ≡ kept (is_on names values) [] is.body =
         ap (λ (p : Program). output_of no_start p.statements) is.is ∙ output-plain no_start (kept (is_on names values) [] is.body) in
@@ -85,22 +100,23 @@ module _ (names : List (List ℕ)) where
         ap R (product ∙ kept_bytes ∙ sym plain_run);
   }
 
-  concise : (lines : List Line) → AllByRecursion (IsKnown names) lines → All IsConcise (lifted names [] lines)
-  concise lines known = All-from_recursion IsConcise (lifted names [] lines)
-      (lifted-all names IsConcise (λ byte groups small marked options. test-concise names groups marked options) [] lines tt tt known)
+  concise : (lines : List Line) → AllByRecursion (IsKnown model.names) lines → AllByRecursion IsConcise (lifted model.names [] lines)
+  concise lines known = lifted-all model.names IsConcise (λ byte groups small marked options. test-concise model.names groups marked options) [] lines tt tt known
 
   -- the printed metaproduct of the lines encodes a source of them
-  pub encodes-product : (lines : List Line) → All (IsKnown names) lines → (bytes text : List ℕ) → IsSmallSource names bytes (map (plain names) lines)
-      → IsProgramText (variables_of names) text (product_of names lines) → text ≡ shown (program_tokens (product_of names lines)) → Encodes names bytes text
-  encodes-product lines known bytes text small is_read printed =
+  pub encodes-product : (lines : List Line) → All (IsKnown model.names) lines → (bytes text : List ℕ) → IsSmallSource model.names bytes (map (plain model.names) lines)
+      → IsProductText model lines text → Encodes model bytes text
+  encodes-product lines known bytes text small is_text =
       record {
-        product = product_of names lines;
-        reads = is_read;
-        runs = runs lines bytes small;
-        printed = printed;
+        product = program_of model.names is_text.kept;
+        reads = is_text.reads;
+        runs = runs lines is_text.kept is_text.pruned bytes small;
+        printed = is_text.printed;
         variables = refl;
         size = λ body is.
-            let same = lifted-size names lines ∙ ap (count_by is_put) (body-unique names bytes (map (plain names) lines) body small is) in
+            let fewer = Prunes-length model is_text.pruned in
+            let same = lifted-size model.names lines ∙ ap (count_by is_put) (body-unique model.names bytes (map (plain model.names) lines) body small is) in
             omega arith;
-        concise = concise lines (recursion_from_All (IsKnown names) lines known);
+        concise = All-from_recursion IsConcise is_text.kept (Prunes-all model IsConcise is_text.pruned (concise lines (recursion_from_All (IsKnown model.names) lines known)));
+        reached = All-from_recursion (IsReached model) is_text.kept (Prunes-reached model is_text.pruned);
       }

@@ -3,9 +3,12 @@ use Rattle.hv_plain.specs.Source.{Line, IsSmallSource}
 use Rattle.std.proofs.Common.{◌≡◌, ℕ, List, [], ◌++◌, Option, Some, None, IsTrue, ◌⊎◌, inl, inr, refl, sym, ◌∙◌, ap, arith, length, append-nil, subst, ◌<◌}
 use Rattle.std.specs.Option.{option_map}
 use Rattle.hv_outside.specs.Sink.{Adds, AddsFront}
-use Rattle.hv_plain.specs.declared.model.ModelFault.{ModelFault}
-use Rattle.hv_plain.specs.declared.model.ModelKind.{ModelKind}
-use Rattle.hv_plain.specs.ModelFile.{ModelReading, model_of, options, fault}
+use Rattle.hv_model.specs.declared.faults.ModelFault.{ModelFault}
+use Rattle.hv_model.specs.declared.faults.ModelKind.{ModelKind}
+use Rattle.hv_model.specs.Lines.{Says, model, fault}
+use Rattle.hv_model.specs.Model.{IsModelOf}
+use Rattle.hv_model.specs.Rule.{Features}
+use Rattle.hv_model.proofs.OneReading.{says_one}
 use Rattle.hv_encode.specs.declared.command.Role.{Role}
 use Rattle.hv_encode.specs.declared.command.Role.TheVariants.{Model, Main}
 use Rattle.hv_encode.specs.declared.answer.Answer.{Answer}
@@ -31,7 +34,7 @@ module _ (words : List (List ℕ)) (reads : Reads) (w : Writes) where
 
   encoded-of-at : (status : ℕ) (answer : Answer) → Answers words reads w status answer → status ≡ 0 → (text : List ℕ) × Answers words reads w status (Encoded text)
   encoded-of-at status (Encoded text) a e = (text, a)
-  encoded-of-at status (LeftOut file) a e = absurd (omega (arith, a.whole.status_is))
+  encoded-of-at status (LeftOut config file) a e = absurd (omega (arith, a.whole.status_is))
   encoded-of-at status BadWords a e = absurd (omega (arith, a.whole.status_is))
   encoded-of-at status (CannotRead name) a e = absurd (omega (arith, a.whole.status_is))
   encoded-of-at status (NoFile name) a e = absurd (omega (arith, a.whole.status_is))
@@ -43,23 +46,23 @@ module _ (words : List (List ℕ)) (reads : Reads) (w : Writes) where
   encoded-of status (failed f) e = absurd (omega (arith, f.unwritten.status_is))
   encoded-of status (starved s) e = absurd (omega (arith, status_starved status s))
 
-  left_out-of-at : (status : ℕ) (answer : Answer) → Answers words reads w status answer → status ≡ 1 → (file : List ℕ) × Answers words reads w status (LeftOut file)
+  left_out-of-at : (status : ℕ) (answer : Answer) → Answers words reads w status answer → status ≡ 1 → (config : List ℕ) × (file : List ℕ) × Answers words reads w status (LeftOut config file)
   left_out-of-at status (Encoded text) a e = absurd (omega (arith, a.whole.status_is))
-  left_out-of-at status (LeftOut file) a e = (file, a)
+  left_out-of-at status (LeftOut config file) a e = (config, file, a)
   left_out-of-at status BadWords a e = absurd (omega (arith, a.whole.status_is))
   left_out-of-at status (CannotRead name) a e = absurd (omega (arith, a.whole.status_is))
   left_out-of-at status (NoFile name) a e = absurd (omega (arith, a.whole.status_is))
   left_out-of-at status (TooBig name size total) a e = absurd (omega (arith, a.whole.status_is))
   left_out-of-at status (BadModel found) a e = absurd (omega (arith, a.whole.status_is))
 
-  pub left_out-of : (status : ℕ) → Ends words reads w status → status ≡ 1 → (file : List ℕ) × Answers words reads w status (LeftOut file)
+  pub left_out-of : (status : ℕ) → Ends words reads w status → status ≡ 1 → (config : List ℕ) × (file : List ℕ) × Answers words reads w status (LeftOut config file)
   left_out-of status (answered answer a) e = left_out-of-at status answer a e
   left_out-of status (failed f) e = absurd (omega (arith, f.unwritten.status_is))
   left_out-of status (starved s) e = absurd (omega (arith, status_starved status s))
 
   bad_words-of-at : (status : ℕ) (answer : Answer) → Answers words reads w status answer → status ≡ 2 → Answers words reads w status BadWords
   bad_words-of-at status (Encoded text) a e = absurd (omega (arith, a.whole.status_is))
-  bad_words-of-at status (LeftOut file) a e = absurd (omega (arith, a.whole.status_is))
+  bad_words-of-at status (LeftOut config file) a e = absurd (omega (arith, a.whole.status_is))
   bad_words-of-at status BadWords a e = a
   bad_words-of-at status (CannotRead name) a e = absurd (omega (arith, a.whole.status_is))
   bad_words-of-at status (NoFile name) a e = absurd (omega (arith, a.whole.status_is))
@@ -73,7 +76,7 @@ module _ (words : List (List ℕ)) (reads : Reads) (w : Writes) where
 
   unread-of-at : (status : ℕ) (answer : Answer) → Answers words reads w status answer → status ≡ 3 → Unread words reads w status
   unread-of-at status (Encoded text) a e = absurd (omega (arith, a.whole.status_is))
-  unread-of-at status (LeftOut file) a e = absurd (omega (arith, a.whole.status_is))
+  unread-of-at status (LeftOut config file) a e = absurd (omega (arith, a.whole.status_is))
   unread-of-at status BadWords a e = absurd (omega (arith, a.whole.status_is))
   unread-of-at status (CannotRead name) a e = inl (name, a)
   unread-of-at status (NoFile name) a e = inr (inl (name, a))
@@ -87,7 +90,7 @@ module _ (words : List (List ℕ)) (reads : Reads) (w : Writes) where
 
   bad_model-of-at : (status : ℕ) (answer : Answer) → Answers words reads w status answer → status ≡ 7 → (found : ModelFault) × Answers words reads w status (BadModel found)
   bad_model-of-at status (Encoded text) a e = absurd (omega (arith, a.whole.status_is))
-  bad_model-of-at status (LeftOut file) a e = absurd (omega (arith, a.whole.status_is))
+  bad_model-of-at status (LeftOut config file) a e = absurd (omega (arith, a.whole.status_is))
   bad_model-of-at status BadWords a e = absurd (omega (arith, a.whole.status_is))
   bad_model-of-at status (CannotRead name) a e = absurd (omega (arith, a.whole.status_is))
   bad_model-of-at status (NoFile name) a e = absurd (omega (arith, a.whole.status_is))
@@ -101,7 +104,7 @@ module _ (words : List (List ℕ)) (reads : Reads) (w : Writes) where
 
   not_four : (answer : Answer) → status_of answer ≡ 4 → ⊥
   not_four (Encoded text) e = omega arith
-  not_four (LeftOut file) e = omega arith
+  not_four (LeftOut config file) e = omega arith
   not_four BadWords e = omega arith
   not_four (CannotRead name) e = omega arith
   not_four (NoFile name) e = omega arith
@@ -110,7 +113,7 @@ module _ (words : List (List ℕ)) (reads : Reads) (w : Writes) where
 
   not_five : (answer : Answer) → status_of answer ≡ 5 → ⊥
   not_five (Encoded text) e = omega arith
-  not_five (LeftOut file) e = omega arith
+  not_five (LeftOut config file) e = omega arith
   not_five BadWords e = omega arith
   not_five (CannotRead name) e = omega arith
   not_five (NoFile name) e = omega arith
@@ -160,10 +163,10 @@ module _ (words : List (List ℕ)) (reads : Reads) (w : Writes) where
         command = at.0;
         words_are = at.1;
         model_file = e.input.bytes;
-        model_held = e.input.model.held told;
+        model_held = e.input.model_file.held told;
         source = e.source;
         source_held = e.input.main.held told;
-        names = e.names;
+        model = e.model;
         model_read = e.input.accepted;
         body = e.body;
         source_read = e.small;
@@ -177,8 +180,12 @@ module _ (words : List (List ℕ)) (reads : Reads) (w : Writes) where
   some_same : {A : Type 0} (o : Option A) (x y : A) → o ≡ Some x → o ≡ Some y → x ≡ y
   some_same o x y p q = cc
 
-  options_same : (r : ModelReading) (x y : List (List ℕ)) → r ≡ options x → r ≡ options y → x ≡ y
-  options_same r x y p q = cc
+  -- a file says one model
+  model_same : (bytes : List ℕ) (m f : Features) → IsModelOf bytes m → IsModelOf bytes f → m ≡ f
+  model_same bytes m f p q = of_model (says_one bytes (model f) (model m) q p)
+    where
+      of_model : model m ≡ model f → m ≡ f
+      of_model e = cc
 
   present : (command : Command) (model_file source : List ℕ) (read : AreRead reads command model_file source) (role : Role) → reads.held (name_of command role) ≡ None → ⊥
   present command model_file source read Model none = let held = read.model_held in cc
@@ -194,7 +201,7 @@ module _ (words : List (List ℕ)) (reads : Reads) (w : Writes) where
   -- files that can be read are found, so no answer that blames them is due
   blames : (command : Command) (model_file source : List ℕ) (read : AreRead reads command model_file source) (answer : Answer) → status_of answer ≡ 3 → IsDueTo reads command answer → ⊥
   blames command model_file source read (Encoded text) e due = omega arith
-  blames command model_file source read (LeftOut file) e due = omega arith
+  blames command model_file source read (LeftOut config file) e due = omega arith
   blames command model_file source read BadWords e due = due
   blames command model_file source read (CannotRead name) e due = read.no_read_fault due.rose
   blames command model_file source read (NoFile name) e due =
@@ -205,33 +212,36 @@ module _ (words : List (List ℕ)) (reads : Reads) (w : Writes) where
   blames command model_file source read (BadModel found) e due = omega arith
 
   -- the files of the input are those that are held
-  same_input : (command : Command) (model_file source : List ℕ) (read : AreRead reads command model_file source) (names : List (List ℕ)) (other : List ℕ)
-      → IsInput reads command names other → (model_of model_file ≡ options names) × (other ≡ source)
-  same_input command model_file source read names other input =
-      let same_file = some_same (reads.held command.model) input.bytes model_file (input.model.held read.told) read.model_held in
+  same_input : (command : Command) (model_file source : List ℕ) (read : AreRead reads command model_file source) (m : Features) (other : List ℕ)
+      → IsInput reads command m other → IsModelOf model_file m × (other ≡ source)
+  same_input command model_file source read m other input =
+      let same_file = some_same (reads.held command.model) input.bytes model_file (input.model_file.held read.told) read.model_held in
       (rw same_file at input.accepted, some_same (reads.held command.main) other source (input.main.held read.told) read.source_held)
 
-  same_model : (command : Command) (model_file source : List ℕ) (read : AreRead reads command model_file source) (line : ℕ) (kind : ModelKind)
-      → IsBadModel reads command line kind → model_of model_file ≡ fault line kind
-  same_model command model_file source read line kind due =
-      let same_file = some_same (reads.held command.model) due.bytes model_file (due.model.held read.told) read.model_held in
+  same_fault : (command : Command) (model_file source : List ℕ) (read : AreRead reads command model_file source) (line : ℕ) (kind : ModelKind)
+      → IsBadModel reads command line kind → Says model_file (fault line kind)
+  same_fault command model_file source read line kind due =
+      let same_file = some_same (reads.held command.model) due.bytes model_file (due.model_file.held read.told) read.model_held in
       rw same_file at due.refused
 
-  not_both : (r : ModelReading) (names : List (List ℕ)) (line : ℕ) (kind : ModelKind) → r ≡ options names → r ≡ fault line kind → ⊥
-  not_both r names line kind p q = cc
+  not_both : (bytes : List ℕ) (m : Features) (line : ℕ) (kind : ModelKind) → IsModelOf bytes m → Says bytes (fault line kind) → ⊥
+  not_both bytes m line kind p q = of_fault (says_one bytes (model m) (fault line kind) p q)
+    where
+      of_fault : fault line kind ≡ model m → ⊥
+      of_fault e = cc
 
   complete-at : (good : IsGood words reads w) (status : ℕ) (answer : Answer) → Answers words reads w status answer → IsDueTo reads good.command answer → Succeeds words reads w status
   complete-at good status (Encoded text) a due = inl (a.whole.status_is, (text, a))
-  complete-at good status (LeftOut file) a due =
-      let same = same_input good.command good.model_file good.source good.read due.names due.source due.input in
-      let same_names = options_same (model_of good.model_file) due.names good.names same.0 good.model_read in
-      absurd (due.no_small_source good.body (rw (same_names, same.1) good.source_read))
+  complete-at good status (LeftOut config file) a due =
+      let same = same_input good.command good.model_file good.source good.read due.model due.source due.input in
+      let one_model = model_same good.model_file due.model good.model same.0 good.model_read in
+      absurd (due.no_small_source good.body (rw (one_model, same.1) good.source_read))
   complete-at good status BadWords a due = absurd due
   complete-at good status (CannotRead name) a due = absurd (blames good.command good.model_file good.source good.read (CannotRead name) refl due)
   complete-at good status (NoFile name) a due = absurd (blames good.command good.model_file good.source good.read (NoFile name) refl due)
   complete-at good status (TooBig name size total) a due = absurd (blames good.command good.model_file good.source good.read (TooBig name size total) refl due)
   complete-at good status (BadModel found) a due =
-      absurd (not_both _ good.names found.line found.kind good.model_read (same_model good.command good.model_file good.source good.read found.line found.kind due))
+      absurd (not_both good.model_file good.model found.line found.kind good.model_read (same_fault good.command good.model_file good.source good.read found.line found.kind due))
 
   pub complete-of : (status : ℕ) → Ends words reads w status → IsGood words reads w → Succeeds words reads w status
   complete-of status (answered answer a) good = complete-at good status answer a (due_to (command_of words) good.command answer good.words_are a.due)
@@ -249,12 +259,12 @@ module _ (words : List (List ℕ)) (reads : Reads) (w : Writes) where
   ends_with wanted status command is only (failed f) = inr (inl f.unwritten.status_is)
   ends_with wanted status command is only (starved s) = inr (inr (status_starved status s))
 
-  only_bad_model : (command : Command) (model_file source : List ℕ) → AreRead reads command model_file source → (line : ℕ) (kind : ModelKind) → model_of model_file ≡ fault line kind
+  only_bad_model : (command : Command) (model_file source : List ℕ) → AreRead reads command model_file source → (line : ℕ) (kind : ModelKind) → Says model_file (fault line kind)
       → (answer : Answer) → IsDueTo reads command answer → status_of answer ≡ 7
   only_bad_model command model_file source read line kind refused (Encoded text) due =
-      absurd (not_both _ due.names line kind (same_input command model_file source read due.names due.source due.input).0 refused)
-  only_bad_model command model_file source read line kind refused (LeftOut file) due =
-      absurd (not_both _ due.names line kind (same_input command model_file source read due.names due.source due.input).0 refused)
+      absurd (not_both model_file due.model line kind (same_input command model_file source read due.model due.source due.input).0 refused)
+  only_bad_model command model_file source read line kind refused (LeftOut config file) due =
+      absurd (not_both model_file due.model line kind (same_input command model_file source read due.model due.source due.input).0 refused)
   only_bad_model command model_file source read line kind refused BadWords due = absurd due
   only_bad_model command model_file source read line kind refused (CannotRead name) due = absurd (blames command model_file source read (CannotRead name) refl due)
   only_bad_model command model_file source read line kind refused (NoFile name) due = absurd (blames command model_file source read (NoFile name) refl due)
@@ -262,29 +272,29 @@ module _ (words : List (List ℕ)) (reads : Reads) (w : Writes) where
   only_bad_model command model_file source read line kind refused (BadModel found) due = refl
 
   pub bad_model_where-of : (status : ℕ) → Ends words reads w status → (command : Command) (model_file source : List ℕ) (line : ℕ) (kind : ModelKind)
-      → command_of words ≡ Some command → AreRead reads command model_file source → model_of model_file ≡ fault line kind → IsOrFails 7 status
+      → command_of words ≡ Some command → AreRead reads command model_file source → Says model_file (fault line kind) → IsOrFails 7 status
   bad_model_where-of status ends command model_file source line kind is read refused =
       ends_with 7 status command is (only_bad_model command model_file source read line kind refused) ends
 
-  only_left_out : (command : Command) (model_file source : List ℕ) → AreRead reads command model_file source → (names : List (List ℕ)) → model_of model_file ≡ options names
-      → ((body : List Line) → IsSmallSource names source body → ⊥) → (answer : Answer) → IsDueTo reads command answer → status_of answer ≡ 1
-  only_left_out command model_file source read names accepted none (Encoded text) due =
-      let same = same_input command model_file source read due.names due.source due.input in
-      let same_names = options_same (model_of model_file) due.names names same.0 accepted in
-      absurd (none due.body (rw (same_names, same.1) at due.small))
-  only_left_out command model_file source read names accepted none (LeftOut file) due = refl
-  only_left_out command model_file source read names accepted none BadWords due = absurd due
-  only_left_out command model_file source read names accepted none (CannotRead name) due = absurd (blames command model_file source read (CannotRead name) refl due)
-  only_left_out command model_file source read names accepted none (NoFile name) due = absurd (blames command model_file source read (NoFile name) refl due)
-  only_left_out command model_file source read names accepted none (TooBig name size total) due = absurd (blames command model_file source read (TooBig name size total) refl due)
-  only_left_out command model_file source read names accepted none (BadModel found) due =
-      absurd (not_both _ names found.line found.kind accepted (same_model command model_file source read found.line found.kind due))
+  only_left_out : (command : Command) (model_file source : List ℕ) → AreRead reads command model_file source → (m : Features) → IsModelOf model_file m
+      → ((body : List Line) → IsSmallSource m.names source body → ⊥) → (answer : Answer) → IsDueTo reads command answer → status_of answer ≡ 1
+  only_left_out command model_file source read m accepted none (Encoded text) due =
+      let same = same_input command model_file source read due.model due.source due.input in
+      let one_model = model_same model_file due.model m same.0 accepted in
+      absurd (none due.body (rw (one_model, same.1) at due.small))
+  only_left_out command model_file source read m accepted none (LeftOut config file) due = refl
+  only_left_out command model_file source read m accepted none BadWords due = absurd due
+  only_left_out command model_file source read m accepted none (CannotRead name) due = absurd (blames command model_file source read (CannotRead name) refl due)
+  only_left_out command model_file source read m accepted none (NoFile name) due = absurd (blames command model_file source read (NoFile name) refl due)
+  only_left_out command model_file source read m accepted none (TooBig name size total) due = absurd (blames command model_file source read (TooBig name size total) refl due)
+  only_left_out command model_file source read m accepted none (BadModel found) due =
+      absurd (not_both model_file m found.line found.kind accepted (same_fault command model_file source read found.line found.kind due))
 
-  pub left_out_where-of : (status : ℕ) → Ends words reads w status → (command : Command) (model_file source : List ℕ) (names : List (List ℕ))
-      → command_of words ≡ Some command → AreRead reads command model_file source → model_of model_file ≡ options names
-      → ((body : List Line) → IsSmallSource names source body → ⊥) → IsOrFails 1 status
-  left_out_where-of status ends command model_file source names is read accepted none =
-      ends_with 1 status command is (only_left_out command model_file source read names accepted none) ends
+  pub left_out_where-of : (status : ℕ) → Ends words reads w status → (command : Command) (model_file source : List ℕ) (m : Features)
+      → command_of words ≡ Some command → AreRead reads command model_file source → IsModelOf model_file m
+      → ((body : List Line) → IsSmallSource m.names source body → ⊥) → IsOrFails 1 status
+  left_out_where-of status ends command model_file source m is read accepted none =
+      ends_with 1 status command is (only_left_out command model_file source read m accepted none) ends
 
   -- a file that can't be used was not read
   not_file : (command : Command) (role : Role) → IsUnusable reads command role → (bytes : List ℕ) → IsFile reads (name_of command role) bytes → ⊥
@@ -294,17 +304,17 @@ module _ (words : List (List ℕ)) (reads : Reads) (w : Writes) where
   ]
 
   not_input : (command : Command) (role : Role) → IsUnusable reads command role → (model_file source : List ℕ) → IsFile reads command.model model_file → IsFile reads command.main source → ⊥
-  not_input command Model bad model_file source model main = not_file command Model bad model_file model
-  not_input command Main bad model_file source model main = not_file command Main bad source main
+  not_input command Model bad model_file source found main = not_file command Model bad model_file found
+  not_input command Main bad model_file source found main = not_file command Main bad source main
 
   only_unread : (command : Command) (role : Role) → IsUnusable reads command role → (answer : Answer) → IsDueTo reads command answer → status_of answer ≡ 3
-  only_unread command role bad (Encoded text) due = absurd (not_input command role bad due.input.bytes due.source due.input.model due.input.main)
-  only_unread command role bad (LeftOut file) due = absurd (not_input command role bad due.input.bytes due.source due.input.model due.input.main)
+  only_unread command role bad (Encoded text) due = absurd (not_input command role bad due.input.bytes due.source due.input.model_file due.input.main)
+  only_unread command role bad (LeftOut config file) due = absurd (not_input command role bad due.input.bytes due.source due.input.model_file due.input.main)
   only_unread command role bad BadWords due = absurd due
   only_unread command role bad (CannotRead name) due = refl
   only_unread command role bad (NoFile name) due = refl
   only_unread command role bad (TooBig name size total) due = refl
-  only_unread command role bad (BadModel found) due = absurd (not_input command role bad due.bytes due.source due.model due.main)
+  only_unread command role bad (BadModel found) due = absurd (not_input command role bad due.bytes due.source due.model_file due.main)
 
   pub unread_where-of : (status : ℕ) → Ends words reads w status → (command : Command) (role : Role) → command_of words ≡ Some command → IsUnusable reads command role → IsOrFails 3 status
   unread_where-of status ends command role is bad = ends_with 3 status command is (only_unread command role bad) ends

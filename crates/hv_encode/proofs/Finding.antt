@@ -1,10 +1,14 @@
 -- What is due because of a later read is due because of the whole call.
+use Rattle.std.specs.Prelude.{Result, Ok, Err, IfOk}
 use Rattle.std.proofs.Common.{◌≡◌, ℕ, ◌≤◌, Bool, List, Option, sym, ◌∙◌, arith, refl}
 use Rattle.hv_outside.specs.Count.{Rose}
+use Rattle.hv_model.specs.Model.{IsModelOf}
+use Rattle.hv_model.specs.Rule.{Features}
+use Rattle.hv_plain.specs.Source.{Line, IsSmallSource}
 use Rattle.hv_encode.specs.declared.answer.Answer.{Answer}
 use Rattle.hv_encode.specs.declared.answer.Answer.TheVariants.{Encoded, LeftOut, BadWords, CannotRead, NoFile, TooBig, BadModel}
 use Rattle.hv_encode.specs.Due.{Reads, Command, IsFile, IsInput, IsDueTo, reads}
-use Rattle.hv_encode.specs.Found.{IsMadeOf}
+use Rattle.hv_encode.specs.Found.{IsLeftOutOf, IsMadeOf}
 
 -- the later reads end where the whole ends, and began after it
 pub record IsLater (whole later : Reads) : Type 0 where
@@ -25,28 +29,31 @@ IsFile-whole whole later l name bytes file = record {
   small = file.small;
 }
 
-IsInput-whole : (whole later : Reads) → IsLater whole later → (command : Command) (names : List (List ℕ)) (source : List ℕ)
-    → IsInput later command names source → IsInput whole command names source
-IsInput-whole whole later l command names source input = record {
+IsInput-whole : (whole later : Reads) → IsLater whole later → (command : Command) (model : Features) (source : List ℕ)
+    → IsInput later command model source → IsInput whole command model source
+IsInput-whole whole later l command model source input = record {
   bytes = input.bytes;
-  model = IsFile-whole whole later l command.model input.bytes input.model;
+  model_file = IsFile-whole whole later l command.model input.bytes input.model_file;
   accepted = input.accepted;
   main = IsFile-whole whole later l command.main source input.main;
 }
 
 pub IsDueTo-whole : (whole later : Reads) → IsLater whole later → (command : Command) (answer : Answer) → IsDueTo later command answer → IsDueTo whole command answer
 IsDueTo-whole whole later l command (Encoded text) due = record {
-  names = due.names;
+  model = due.model;
   source = due.source;
-  input = IsInput-whole whole later l command due.names due.source due.input;
+  input = IsInput-whole whole later l command due.model due.source due.input;
   body = due.body;
   small = due.small;
   encodes = due.encodes;
 }
-IsDueTo-whole whole later l command (LeftOut file) due = record {
-  names = due.names;
+IsDueTo-whole whole later l command (LeftOut config file) due = record {
+  model = due.model;
   source = due.source;
-  input = IsInput-whole whole later l command due.names due.source due.input;
+  input = IsInput-whole whole later l command due.model due.source due.input;
+  values = due.values;
+  least = due.least;
+  config_is = due.config_is;
   file_is = due.file_is;
   no_small_source = due.no_small_source;
 }
@@ -72,7 +79,7 @@ IsDueTo-whole whole later l command (TooBig name size total) due = record {
 }
 IsDueTo-whole whole later l command (BadModel found) due = record {
   bytes = due.bytes;
-  model = IsFile-whole whole later l command.model due.bytes due.model;
+  model_file = IsFile-whole whole later l command.model due.bytes due.model_file;
   source = due.source;
   main = IsFile-whole whole later l command.main due.source due.main;
   refused = due.refused;
@@ -80,26 +87,29 @@ IsDueTo-whole whole later l command (BadModel found) due = record {
 
 pub IsDueTo-made : (reads : Reads) (command : Command) (model_file source : List ℕ) (answer : Answer) → IsFile reads command.model model_file → IsFile reads command.main source
     → IsMadeOf model_file source command.main answer → IsDueTo reads command answer
-IsDueTo-made reads command model_file source (Encoded text) model main made = record {
-  names = made.0;
+IsDueTo-made reads command model_file source (Encoded text) is_model main made = record {
+  model = made.0;
   source = source;
-  input = record { bytes = model_file; model = model; accepted = made.2; main = main };
+  input = record { bytes = model_file; model_file = is_model; accepted = made.2; main = main };
   body = made.1;
   small = made.3;
   encodes = made.4;
 }
-IsDueTo-made reads command model_file source (LeftOut file) model main made = record {
-  names = made.0;
+IsDueTo-made reads command model_file source (LeftOut config file) is_model main made = record {
+  model = made.0;
   source = source;
-  input = record { bytes = model_file; model = model; accepted = made.1; main = main };
-  file_is = made.2;
+  input = record { bytes = model_file; model_file = is_model; accepted = made.1; main = main };
+  values = made.2.0;
+  least = made.2.1;
+  config_is = made.2.2;
+  file_is = made.2.3;
   no_small_source = made.3;
 }
-IsDueTo-made reads command model_file source BadWords model main made = made
-IsDueTo-made reads command model_file source (CannotRead name) model main made = absurd made
-IsDueTo-made reads command model_file source (NoFile name) model main made = absurd made
-IsDueTo-made reads command model_file source (TooBig name size total) model main made = absurd made
-IsDueTo-made reads command model_file source (BadModel found) model main made = record { bytes = model_file; model = model; source = source; main = main; refused = made }
+IsDueTo-made reads command model_file source BadWords is_model main made = made
+IsDueTo-made reads command model_file source (CannotRead name) is_model main made = absurd made
+IsDueTo-made reads command model_file source (NoFile name) is_model main made = absurd made
+IsDueTo-made reads command model_file source (TooBig name size total) is_model main made = absurd made
+IsDueTo-made reads command model_file source (BadModel found) is_model main made = record { bytes = model_file; model_file = is_model; source = source; main = main; refused = made }
 
 pub IsLater-reads : {F : Type 0} (told : F → Bool) (held : F → List ℕ → Option (List ℕ)) (faults absences : F → ℕ) (failed_name : F → Option (List ℕ)) (old mid new : F)
     → told mid ≡ told old → ((name : List ℕ) → held mid name ≡ held old name) → faults old ≤ faults mid → absences old ≤ absences mid
@@ -117,3 +127,18 @@ IsLater-reads told held faults absences failed_name old mid new t h f a = record
 pub IsFile-reads : {F : Type 0} (told : F → Bool) (held : F → List ℕ → Option (List ℕ)) (faults absences : F → ℕ) (failed_name : F → Option (List ℕ)) (old mid new : F) (name bytes : List ℕ)
     → IsFile (reads told held faults absences failed_name old mid) name bytes → IsFile (reads told held faults absences failed_name old new) name bytes
 IsFile-reads told held faults absences failed_name old mid new name bytes file = record { held = file.held; small = file.small }
+
+-- an answer for a main file that is no small source is one for the bytes of the files
+pub left_out_made : {E : Type 0} (result : Result Answer E) (model_file source main : List ℕ) (m : Features) → IsModelOf model_file m → ((body : List Line) → IsSmallSource m.names source body → ⊥)
+    → IfOk result (IsLeftOutOf m main) → IfOk result (IsMadeOf model_file source main)
+left_out_made (Err e) model_file source main m accepted refused out = tt
+left_out_made (Ok answer) model_file source main m accepted refused out = at answer out
+  where
+    at : (answer : Answer) → IsLeftOutOf m main answer → IsMadeOf model_file source main answer
+    at (Encoded text) out = absurd out
+    at (LeftOut config file) out = (m, accepted, out, refused)
+    at BadWords out = absurd out
+    at (CannotRead name) out = absurd out
+    at (NoFile name) out = absurd out
+    at (TooBig name size total) out = absurd out
+    at (BadModel found) out = absurd out

@@ -3,9 +3,12 @@ mod Encoded
 pub mod EndsLemmas
 pub mod Finding
 mod Lists
+mod Messages
 mod NestedLines
+mod Presences
 mod Printed
 mod Product
+mod Pruning
 mod Reading
 mod Semantics
 mod SmallSources

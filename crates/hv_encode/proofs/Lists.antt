@@ -46,5 +46,20 @@ list_any-reverse p [] = refl
 list_any-reverse p (x ∷ xs) =
     ap (list_any p) (reverse-front x xs) ∙ list_any-append p (reverse xs) (x ∷ []) ∙ rw (list_any-reverse p xs, or_false) (or_comm (list_any p xs) (p x))
 
+pub and_comm : (a b : Bool) → (a && b) ≡ (b && a)
+and_comm true true = refl
+and_comm true false = refl
+and_comm false true = refl
+and_comm false false = refl
+
+pub and_true : (a : Bool) → (a && true) ≡ a
+and_true true = refl
+and_true false = refl
+
+pub list_all-reverse : {X : Type 0} (p : X → Bool) (xs : List X) → list_all p (reverse xs) ≡ list_all p xs
+list_all-reverse p [] = refl
+list_all-reverse p (x ∷ xs) =
+    ap (list_all p) (reverse-front x xs) ∙ list_all-append p (reverse xs) (x ∷ []) ∙ rw (list_all-reverse p xs, and_true) (and_comm (list_all p xs) (p x))
+
 pub heads : {X : Type 0} (x y : X) (xs ys : List X) → x ∷ xs ≡ y ∷ ys → (x ≡ y) × (xs ≡ ys)
 heads x y xs ys e = ((cc), (cc))

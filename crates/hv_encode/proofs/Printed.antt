@@ -5,12 +5,12 @@ use Rattle.std.proofs.lemmas.Bool.Decides.{nat_tests}
 use Rattle.std.proofs.lemmas.Fmt.{decimal_by_steps}
 use Rattle.std.proofs.lemmas.Grind.{flat_map-append}
 use Rattle.std.proofs.lemmas.List.{append_assoc, append-nil, take_more, take_all, map-append}
-use Rattle.hv_plain.specs.Name.{is_digit}
+use Rattle.hv_model.specs.Name.{is_digit}
 use Rattle.hv_plain.specs.Program.{Literal, Statement, shown, shown_token, ends_a_line, literal_tokens, test_tokens, call_tokens, statement_tokens, declaration_tokens, head_tokens, program_tokens}
 use Rattle.hv_plain.specs.Run.{variable_of, variables_of}
-use Rattle.hv_encode.specs.declared.line.Line.{Line}
 use Rattle.hv_encode.specs.declared.lift.Group.{Group}
-use Rattle.hv_encode.specs.Lift.{IsBegun, is_tested, opening_tokens, part_of_test, test_in, has_literal, opened, lifted, product_of}
+use Rattle.hv_encode.specs.Lift.{IsBegun, is_tested, opening_tokens, part_of_test, test_in, has_literal, opened}
+use Rattle.hv_encode.specs.Presence.{program_of}
 use Rattle.hv_encode.proofs.Lists.{list_all-append, and_both, and_parts, reverse-front, list_any-reverse}
 
 -- three writes in a row are one
@@ -152,12 +152,12 @@ module _ (names : List (List ℕ)) where
       h ∙ ap (λ test. before ++ statements_text (S test ∷ [])) (ap (flat_map (part_of_test names)) (take_all i groups past) ∙ sym (test-reverse groups))
 
   -- the parts of the printed metaproduct, one behind the other
-  pub product_text : (lines : List Line) (t1 t2 t3 t4 : List ℕ) → t1 ≡ [] ++ shown (flat_map declaration_tokens (variables_of names))
-      → t2 ≡ t1 ++ codes "int putchar ( int ) ;\nint main ( void ) {\n" → t3 ≡ t2 ++ statements_text (lifted names [] lines) → t4 ≡ t3 ++ codes "}\n"
-      → t4 ≡ shown (program_tokens (product_of names lines))
-  product_text lines t1 t2 t3 t4 p q r s =
+  pub product_text : (statements : List Statement) (t1 t2 t3 t4 : List ℕ) → t1 ≡ [] ++ shown (flat_map declaration_tokens (variables_of names))
+      → t2 ≡ t1 ++ codes "int putchar ( int ) ;\nint main ( void ) {\n" → t3 ≡ t2 ++ statements_text statements → t4 ≡ t3 ++ codes "}\n"
+      → t4 ≡ shown (program_tokens (program_of names statements))
+  product_text statements t1 t2 t3 t4 p q r s =
       let D = flat_map declaration_tokens (variables_of names) in
-      let S = flat_map statement_tokens (lifted names [] lines) in
+      let S = flat_map statement_tokens statements in
       s ∙ ap (λ t. t ++ codes "}\n") (r ∙ ap (λ t. t ++ shown S) (q ∙ ap (λ t. t ++ shown head_tokens) p))
       ∙ sym (shown-append (D ++ head_tokens ++ S) (codes "}" ∷ [])
       ∙ ap (λ t. t ++ codes "}\n") (shown-append (D ++ head_tokens) S ∙ ap (λ t. t ++ shown S) (shown-append D head_tokens)))

@@ -13,7 +13,7 @@ use Rattle.hv_encode.specs.declared.lift.Group.{Group}
 use Rattle.hv_encode.specs.Lines.{name_at, IsOption, IsKnown}
 use Rattle.hv_encode.specs.Lift.{has_literal, opened, literal_of, part_of_test, test_in, lifted}
 use Rattle.hv_encode.proofs.Lists.{and_both}
-use Rattle.hv_encode.proofs.Semantics.{IsMarked}
+use Rattle.hv_encode.specs.Presence.{IsMarked}
 
 module _ (names : List (List ℕ)) where
   abbrev pub AllOptions : List Group → Type 0

@@ -11,12 +11,8 @@ use Rattle.hv_encode.specs.declared.line.Line.TheVariants.{Put, IfDefined, IfNot
 use Rattle.hv_encode.specs.declared.lift.Group.{Group}
 use Rattle.hv_encode.specs.Lines.{name_at, plain}
 use Rattle.hv_encode.specs.Lift.{has_literal, opened, literal_of, part_of_test, test_in, lifted}
+use Rattle.hv_encode.specs.Presence.{IsMarked}
 use Rattle.hv_encode.proofs.Lists.{list_all-append, and_parts}
-
--- the flag of each group is right
-abbrev pub IsMarked : List Group → Type 0
-IsMarked [] = Unit {0}
-IsMarked (group ∷ groups) = (group.repeated ≡ list_any (has_literal group.option group.negated) groups) × IsMarked groups
 
 pub start-is_on : (names : List (List ℕ)) (values : List Bool) (name : List ℕ) → start names values (variable_of name) ≡ cond (is_on names values name) 1 0
 start-is_on [] values name = refl

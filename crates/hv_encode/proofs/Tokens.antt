@@ -8,7 +8,7 @@ use Rattle.std.proofs.lemmas.List.Elements.{All-from_recursion}
 use Rattle.std.proofs.lemmas.List.Splits.{slice_split_at}
 use Rattle.std.proofs.lemmas.Bool.Decides.{nat_tests}
 use Rattle.hv_plain.specs.Bytes.{is_gap}
-use Rattle.hv_plain.specs.Name.{is_letter, is_digit, is_name, is_option_name}
+use Rattle.hv_model.specs.Name.{is_letter, is_digit, is_name, is_option_name}
 use Rattle.hv_plain.specs.Program.{Literal, Statement, Program, shown, ends_a_line, literal_tokens, test_tokens, call_tokens, guarded_tokens, statement_tokens, declaration_tokens, head_tokens, program_tokens}
 use Rattle.hv_plain.specs.Run.{variable_of}
 use Rattle.hv_encode.proofs.Lists.{list_all-append, and_both, and_parts}

@@ -1,12 +1,12 @@
 -- The answers of the tool: each has a status, the bytes for its output, and a message.
 use Rattle.std.specs.Prelude.{ℕ, List, [], ◌++◌, codes, decimal}
-use Rattle.hv_plain.specs.ModelKind.{kind_number, kind_name}
+use Rattle.hv_model.specs.ModelKind.{kind_number, kind_name}
 use Rattle.hv_encode.specs.declared.answer.Answer.{Answer}
 use Rattle.hv_encode.specs.declared.answer.Answer.TheVariants.{Encoded, LeftOut, BadWords, CannotRead, NoFile, TooBig, BadModel}
 
 abbrev pub status_of : Answer → ℕ
 status_of (Encoded _) = 0
-status_of (LeftOut _) = 1
+status_of (LeftOut _ _) = 1
 status_of BadWords = 2
 status_of (CannotRead _) = 3
 status_of (NoFile _) = 3
@@ -16,7 +16,7 @@ status_of (BadModel _) = 7
 -- what goes to the output: the metaproduct, and nothing else
 abbrev pub output_of : Answer → List ℕ
 output_of (Encoded text) = text
-output_of (LeftOut _) = []
+output_of (LeftOut _ _) = []
 output_of BadWords = []
 output_of (CannotRead _) = []
 output_of (NoFile _) = []
@@ -26,7 +26,8 @@ output_of (BadModel _) = []
 -- the message of an answer: one line, and none for success
 abbrev pub message_of : Answer → List ℕ
 message_of (Encoded _) = []
-message_of (LeftOut file) = codes "hercules: fails config= file=" ++ file ++ codes " line=1 offset=0 via=- why=14 LeftOut\n"
+message_of (LeftOut config file) =
+    codes "hercules: fails config=" ++ config ++ codes " file=" ++ file ++ codes " line=1 offset=0 via=- why=14 LeftOut\n"
 message_of BadWords = codes "hercules: bad words\n"
 message_of (CannotRead name) = codes "hercules: cannot read " ++ name ++ codes "\n"
 message_of (NoFile name) = codes "hercules: no file " ++ name ++ codes "\n"

@@ -2,10 +2,13 @@
 use Rattle.std.specs.Prelude.{ℕ, ◌≡◌, ◌<◌, ◌≤◌, Bool, cond, List, [], ◌∷◌, length, Option, Some, None, codes, IsTrue}
 use Rattle.std.specs.Str.{bytes_eq}
 use Rattle.hv_outside.specs.Count.{Rose}
-use Rattle.hv_plain.specs.ModelFile.{model_of, options, fault}
+use Rattle.hv_model.specs.Config.{text_of}
+use Rattle.hv_model.specs.Lines.{Says, fault}
+use Rattle.hv_model.specs.Model.{IsModelOf}
+use Rattle.hv_model.specs.Rule.{Features, IsLeastValid}
 use Rattle.hv_plain.specs.Source.{Line, IsSmallSource}
 use Rattle.hv_plain.specs.Run.{Encodes}
-use Rattle.hv_plain.specs.declared.model.ModelKind.{ModelKind}
+use Rattle.hv_model.specs.declared.faults.ModelKind.{ModelKind}
 use Rattle.hv_encode.specs.declared.command.Role.{Role}
 use Rattle.hv_encode.specs.declared.command.Role.TheVariants.{Model, Main}
 use Rattle.hv_encode.specs.declared.answer.Answer.{Answer}
@@ -84,33 +87,37 @@ pub record IsUnreadable (reads : Reads) (command : Command) (name : List ℕ) : 
 -- both files were read, and the model file is refused
 pub record IsBadModel (reads : Reads) (command : Command) (line : ℕ) (kind : ModelKind) : Type 0 where
   pub bytes : List ℕ
-  pub model : IsFile reads command.model bytes
+  pub model_file : IsFile reads command.model bytes
   pub source : List ℕ
   pub main : IsFile reads command.main source
-  pub refused : model_of bytes ≡ fault line kind
+  pub refused : Says bytes (fault line kind)
 
--- the model file gives these options, and the main file these bytes
-pub record IsInput (reads : Reads) (command : Command) (names : List (List ℕ)) (source : List ℕ) : Type 0 where
+-- the model file says this model, and the main file holds these bytes
+pub record IsInput (reads : Reads) (command : Command) (model : Features) (source : List ℕ) : Type 0 where
   pub bytes : List ℕ
-  pub model : IsFile reads command.model bytes
-  pub accepted : model_of bytes ≡ options names
+  pub model_file : IsFile reads command.model bytes
+  pub accepted : IsModelOf bytes model
   pub main : IsFile reads command.main source
 
-pub record IsLeftOut (reads : Reads) (command : Command) (file : List ℕ) : Type 0 where
-  pub names : List (List ℕ)
+-- the main file is no small source, and the configuration is the least valid one
+pub record IsLeftOut (reads : Reads) (command : Command) (config file : List ℕ) : Type 0 where
+  pub model : Features
   pub source : List ℕ
-  pub input : IsInput reads command names source
+  pub input : IsInput reads command model source
+  pub values : List Bool
+  pub least : IsLeastValid model values
+  pub config_is : config ≡ text_of model.names values
   pub file_is : file ≡ command.main
-  pub no_small_source : (body : List Line) → IsSmallSource names source body → ⊥
+  pub no_small_source : (body : List Line) → IsSmallSource model.names source body → ⊥
 
--- the text is the metaproduct of the main file for the options of the model file
+-- the text is the metaproduct of the main file for the model of the model file
 pub record IsEncoded (reads : Reads) (command : Command) (text : List ℕ) : Type 0 where
-  pub names : List (List ℕ)
+  pub model : Features
   pub source : List ℕ
-  pub input : IsInput reads command names source
+  pub input : IsInput reads command model source
   pub body : List Line
-  pub small : IsSmallSource names source body
-  pub encodes : Encodes names source text
+  pub small : IsSmallSource model.names source body
+  pub encodes : Encodes model source text
 
 -- refused words are answered before any file is asked for
 pub record IsUntouched (reads : Reads) : Type 0 where
@@ -120,7 +127,7 @@ pub record IsUntouched (reads : Reads) : Type 0 where
 -- the answer is due to a command
 abbrev pub IsDueTo : Reads → Command → Answer → Type 0
 IsDueTo reads command (Encoded text) = IsEncoded reads command text
-IsDueTo reads command (LeftOut file) = IsLeftOut reads command file
+IsDueTo reads command (LeftOut config file) = IsLeftOut reads command config file
 IsDueTo reads command BadWords = ⊥
 IsDueTo reads command (CannotRead name) = IsUnreadable reads command name
 IsDueTo reads command (NoFile name) = IsAbsent reads command name

@@ -1,8 +1,8 @@
 -- How a call of the program ends, status by status.
 use Rattle.std.specs.Prelude.{ℕ, ◌≡◌, ◌≢◌, ◌≤◌, ◌<◌, ◌⊎◌, Bool, List, [], ◌++◌, length, Option, Some, IsTrue, None}
 use Rattle.hv_outside.specs.Count.{Rose}
-use Rattle.hv_plain.specs.Config.{IsValid}
-use Rattle.hv_plain.specs.ModelFile.{model_of, options}
+use Rattle.hv_model.specs.Model.{IsModelOf}
+use Rattle.hv_model.specs.Rule.{Features, IsValid}
 use Rattle.hv_plain.specs.Source.{Line, IsSmallSource}
 use Rattle.hv_plain.specs.Program.{Program, IsProgramText}
 use Rattle.hv_plain.specs.Run.{IsVariant, run, start, no_start, undefined, variables_of}
@@ -44,7 +44,7 @@ pub data Ends (words : List (List ℕ)) (reads : Reads) (w : Writes) (status : �
   starved : Starves words reads w status → Ends words reads w status
 
 -- The headline. The files and the output tell what they hold. Then the words name a model file and a
--- main file; the model file gives options, and the main file is a small source; and the bytes written,
+-- main file; the model file says a model, and the main file is a small source; and the bytes written,
 -- behind what the output held, are a typed program which, started with a valid configuration, runs on
 -- every input and for every number of steps as the variant of that configuration, wherever the variant
 -- meets no undefined behaviour: the same output, the same input taken, the same end.
@@ -55,17 +55,17 @@ pub record Headline (words : List (List ℕ)) (held : List ℕ → Option (List 
   pub model_held : held command.model ≡ Some model_file
   pub source : List ℕ
   pub source_held : held command.main ≡ Some source
-  pub names : List (List ℕ)
-  pub model_read : model_of model_file ≡ options names
+  pub model : Features
+  pub model_read : IsModelOf model_file model
   pub body : List Line
-  pub source_read : IsSmallSource names source body
+  pub source_read : IsSmallSource model.names source body
   pub text : List ℕ
   pub text_written : (so_far : List ℕ) → before ≡ Some so_far → now ≡ Some (so_far ++ text)
   pub product : Program
-  pub product_read : IsProgramText (variables_of names) text product
-  pub agrees : (values : List Bool) → IsValid names values → (variant : Program) → IsVariant names source values variant → (input : List ℕ) (steps : ℕ)
+  pub product_read : IsProgramText (variables_of model.names) text product
+  pub agrees : (values : List Bool) → IsValid model values → (variant : Program) → IsVariant model.names source values variant → (input : List ℕ) (steps : ℕ)
       → (run variant no_start input steps).ending ≢ undefined
-      → run product (start names values) input steps ≡ run variant no_start input steps
+      → run product (start model.names values) input steps ≡ run variant no_start input steps
 
 -- the files tell that they hold these two within the limit, and no count of their faults rose
 pub record AreRead (reads : Reads) (command : Command) (model_file source : List ℕ) : Type 0 where
@@ -90,10 +90,10 @@ pub record IsGood (words : List (List ℕ)) (reads : Reads) (w : Writes) : Type 
   pub model_file : List ℕ
   pub source : List ℕ
   pub read : AreRead reads command model_file source
-  pub names : List (List ℕ)
-  pub model_read : model_of model_file ≡ options names
+  pub model : Features
+  pub model_read : IsModelOf model_file model
   pub body : List Line
-  pub source_read : IsSmallSource names source body
+  pub source_read : IsSmallSource model.names source body
   pub no_output_fault : Rose w.out_faults_before w.out_faults_now → ⊥
   pub no_message_fault : Rose w.err_faults_before w.err_faults_now → ⊥
 

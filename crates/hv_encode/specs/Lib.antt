@@ -5,3 +5,4 @@ pub mod Found
 pub mod Given
 pub mod Lift
 pub mod Lines
+pub mod Presence

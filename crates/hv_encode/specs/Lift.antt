@@ -1,8 +1,8 @@
 -- The metaproduct of a body: each statement is tested by the literals of the groups that are open at it.
 use Rattle.std.specs.Prelude.{ℕ, ◌≡◌, ◌<◌, length, codes, Bool, true, false, cond, not, ◌&&◌, ◌==◌, List, [], ◌∷◌, ◌++◌}
 use Rattle.std.specs.List.{list_any}
-use Rattle.hv_plain.specs.Program.{Literal, Statement, Program, shown, test_tokens}
-use Rattle.hv_plain.specs.Run.{variable_of, variables_of}
+use Rattle.hv_plain.specs.Program.{Literal, Statement, shown, test_tokens}
+use Rattle.hv_plain.specs.Run.{variable_of}
 use Rattle.hv_encode.specs.declared.line.Line.{Line}
 use Rattle.hv_encode.specs.declared.line.Line.TheVariants.{Put, IfDefined, IfNotDefined, Else, EndIf}
 use Rattle.hv_encode.specs.declared.lift.Group.{Group}
@@ -52,10 +52,6 @@ statement_of names groups EndIf = []
 abbrev pub lifted : List (List ℕ) → List Group → List Line → List Statement
 lifted names groups [] = []
 lifted names groups (line ∷ lines) = statement_of names groups line ++ lifted names (after line groups) lines
-
--- the metaproduct of a body
-abbrev pub product_of : List (List ℕ) → List Line → Program
-product_of names lines = record { variables = variables_of names; statements = lifted names [] lines }
 
 -- the group's option is one of the model
 abbrev pub HasOption : List (List ℕ) → Group → Type 0

@@ -2,7 +2,8 @@
 use Rattle.std.specs.Prelude.{ℕ, ◌≡◌, ◌<◌, List, [], ◌∷◌, ◌++◌, length, map, codes, Some, Contains}
 use Rattle.std.specs.List.{slice_index_or, position, slice_split}
 use Rattle.std.specs.Str.{bytes_eq}
-use Rattle.hv_plain.specs.Bytes.{trimmed, is_newline}
+use Rattle.hv_model.specs.Bytes.{is_newline}
+use Rattle.hv_plain.specs.Bytes.{trimmed}
 use Rattle.hv_plain.specs.Source as source
 use Rattle.hv_encode.specs.declared.line.Line.{Line}
 use Rattle.hv_encode.specs.declared.line.Line.TheVariants.{Put, IfDefined, IfNotDefined, Else, EndIf}

@@ -1,13 +1,14 @@
 use hv_base::Text;
-use hv_plain::ModelFault;
+use hv_model::ModelFault;
 
 /// An answer of the tool.
 #[derive(Debug, Drop)]
 pub enum Answer {
     /// Status 0: the metaproduct.
     Encoded(Text),
-    /// Status 1: the source, in the file of this name, is no small one.
-    LeftOut { file: Text },
+    /// Status 1: the source, in the file of this name, is no small one. The configuration is the text of
+    /// the least valid one.
+    LeftOut { config: Text, file: Text },
     /// Status 2: the words are no command.
     BadWords,
     /// Status 3: reading the file of this name failed.

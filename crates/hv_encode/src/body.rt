@@ -1,13 +1,13 @@
 ghost use Rattle.std.specs.Prelude.{◌≡◌, ◌<◌, ◌++◌, [], ◌∷◌, ℕ, List, Some, IfOk, IfSome, IfNone, codes, length, map, position};
 ghost use Rattle.std.specs.List.{All, slice_split};
-ghost use Rattle.hv_plain.specs.Bytes.{is_newline};
+ghost use Rattle.hv_model.specs.Bytes.{is_newline};
 ghost use Rattle.hv_plain.specs.Source.{Line as PlainLine, IsLine, spelled};
 ghost use Rattle.hv_encode.specs.Lines.{IsKnown, IsCutInto, plain};
 
 use crate::line::{Line, line_of};
 use crate::trim::trimmed;
 use hv_base::Memory;
-use hv_plain::Model;
+use hv_model::Model;
 use std::alloc::Global;
 
 /// Where the first newline stands.
@@ -42,9 +42,9 @@ pub fn behind_line<'a>(text: &'a [u8], line: &[u8]) -> Option<&'a [u8]>
 
 /// The lines of a body, which the closing line and nothing else follows.
 pub fn body_of(alloc: Global, model: &Model, text: &[u8]) -> Result<Option<Vec<Line>>, Memory>
-    ensures known { IfOk result (λ answer. IfSome answer (λ lines. All (IsKnown model.now) lines.items)) }
-    ensures some { IfOk result (λ answer. IfSome answer (λ lines. IsCutInto text.now (map spelled (map (plain model.now) lines.items) ++ codes "}" ∷ []))) }
-    ensures none { IfOk result (λ answer. IfNone answer ((body : List PlainLine) → All (IsLine model.now) body → ¬ (IsCutInto text.now (map spelled body ++ codes "}" ∷ [])))) }
+    ensures known { IfOk result (λ answer. IfSome answer (λ lines. All (IsKnown model.now.names) lines.items)) }
+    ensures some { IfOk result (λ answer. IfSome answer (λ lines. IsCutInto text.now (map spelled (map (plain model.now.names) lines.items) ++ codes "}" ∷ []))) }
+    ensures none { IfOk result (λ answer. IfNone answer ((body : List PlainLine) → All (IsLine model.now.names) body → ¬ (IsCutInto text.now (map spelled body ++ codes "}" ∷ [])))) }
 {
     let mut lines = Vec::new(alloc);
     let mut rest = text;

@@ -1,12 +1,13 @@
-ghost use Rattle.std.specs.Prelude.{◌≡◌, ◌≤◌, List, ℕ, None, IfOk, map};
+ghost use Rattle.std.specs.Prelude.{◌≡◌, ◌≤◌, Bool, List, ℕ, None, IfOk, map};
 ghost use Rattle.std.specs.String.{string_bytes};
 ghost use Rattle.hv_encode.specs.Due.{IsDue, IsDueTo, IsUntouched, Command, command_of, name_of, reads, total_of};
-ghost use Rattle.hv_encode.specs.Found.{IsFound, IsMadeOf};
+ghost use Rattle.hv_encode.specs.Found.{IsFound, IsLeftOutOf, IsMadeOf};
+ghost use Rattle.hv_model.specs.Rule.{IsValid};
 
 use crate::{Answer, encode_small};
 use hv_base::{Memory, Text};
+use hv_model::{Model, ModelRefusal, least_valid, print_config, read_model};
 use hv_outside::{FileFault, Files, Got};
-use hv_plain::{ModelRefusal, read_model};
 use std::alloc::Global;
 
 /// What a file is read for.
@@ -124,8 +125,20 @@ fn metaproduct(
     };
     match encode_small(alloc, &model, source)? {
         Some(text) => Ok(Answer::Encoded(text)),
-        None => Ok(Answer::LeftOut {
-            file: copy(alloc, main)?,
-        }),
+        None => left_out(alloc, &model, main),
     }
+}
+
+/// The answer for a main file of this name that is no small source.
+fn left_out(alloc: Global, model: &Model, main: &str) -> Result<Answer, Memory>
+    requires { (values : List Bool) × IsValid model.now values }
+    ensures { IfOk result (IsLeftOutOf model.now main.now) }
+{
+    let Some(config) = least_valid(alloc, model)? else {
+        unreachable!("a model has a valid configuration");
+    };
+    Ok(Answer::LeftOut {
+        config: print_config(alloc, model, &config)?,
+        file: copy(alloc, main)?,
+    })
 }

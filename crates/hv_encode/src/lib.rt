@@ -9,6 +9,7 @@ mod lift;
 mod line;
 mod message;
 mod nesting;
+mod presence;
 mod print;
 mod small;
 mod source;

@@ -2,7 +2,7 @@ ghost use Rattle.std.specs.Prelude.{◌≡◌, ◌≢◌, ◌<◌, ◌++◌, ℕ
 ghost use Rattle.hv_plain.specs.Source.{Line as PlainLine, put, spelled, IsLine};
 ghost use Rattle.hv_encode.specs.Lines.{name_at, plain, IsOption, IsKnown};
 
-use hv_plain::Model;
+use hv_model::Model;
 
 /// A line of the body of a small source. Options go by their numbers in the model.
 #[derive(Clone, Copy, Debug, PartialEq, Eq)]
@@ -43,16 +43,16 @@ fn put_of(text: &[u8]) -> Option<u8>
 
 /// The number of the option whose name stands behind the directive.
 fn option_behind(model: &Model, directive: &[u8], text: &[u8]) -> Option<usize>
-    ensures some { IfSome result (λ option. IsOption model.now option × (text.now ≡ directive.now ++ name_at model.now option)) }
-    ensures none { IfNone result ((name : List ℕ) → Contains model.now name → text.now ≢ directive.now ++ name) }
+    ensures some { IfSome result (λ option. IsOption model.now.names option × (text.now ≡ directive.now ++ name_at model.now.names option)) }
+    ensures none { IfNone result ((name : List ℕ) → Contains model.now.names name → text.now ≢ directive.now ++ name) }
 {
     model.position(text.strip_prefix(directive)?)
 }
 
 /// The line that the text, without blanks at its ends, is.
 pub fn line_of(model: &Model, text: &[u8]) -> Option<Line>
-    ensures some { IfSome result (λ line. IsKnown model.now line × (text.now ≡ spelled (plain model.now line))) }
-    ensures none { IfNone result ((line : PlainLine) → IsLine model.now line → text.now ≢ spelled line) }
+    ensures some { IfSome result (λ line. IsKnown model.now.names line × (text.now ≡ spelled (plain model.now.names line))) }
+    ensures none { IfNone result ((line : PlainLine) → IsLine model.now.names line → text.now ≢ spelled line) }
 {
     if let Some(byte) = put_of(text) {
         Some(Line::Put(byte))

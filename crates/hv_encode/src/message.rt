@@ -4,7 +4,7 @@ ghost use Rattle.hv_encode.specs.Answer.{message_of, output_of, status_of};
 
 use crate::Answer;
 use hv_base::{Memory, Text};
-use hv_plain::ModelFault;
+use hv_model::ModelFault;
 use itoa::Buffer;
 use std::alloc::Global;
 
@@ -38,14 +38,7 @@ impl Answer {
     {
         match self {
             Answer::Encoded(_) => Ok(Text::new(alloc)),
-            Answer::LeftOut { file } => joined(
-                alloc,
-                &[
-                    b"hercules: fails config= file=".as_slice(),
-                    file.as_slice(),
-                    b" line=1 offset=0 via=- why=14 LeftOut\n".as_slice(),
-                ],
-            ),
+            Answer::LeftOut { config, file } => left_out(alloc, config, file),
             Answer::BadWords => joined(alloc, &[b"hercules: bad words\n".as_slice()]),
             Answer::CannotRead { name } => about(alloc, b"hercules: cannot read ", name),
             Answer::NoFile { name } => about(alloc, b"hercules: no file ", name),
@@ -70,6 +63,21 @@ fn about(alloc: Global, what: &[u8], name: &Text) -> Result<Text, Memory>
     ensures { IfOk result (λ text. text ≡ what.now ++ name.now ++ codes "\n") }
 {
     joined(alloc, &[what, name.as_slice(), b"\n".as_slice()])
+}
+
+fn left_out(alloc: Global, config: &Text, file: &Text) -> Result<Text, Memory>
+    ensures { IfOk result (λ text. text ≡ message_of (Answer.LeftOut config.now file.now)) }
+{
+    joined(
+        alloc,
+        &[
+            b"hercules: fails config=".as_slice(),
+            config.as_slice(),
+            b" file=".as_slice(),
+            file.as_slice(),
+            b" line=1 offset=0 via=- why=14 LeftOut\n".as_slice(),
+        ],
+    )
 }
 
 fn too_big(alloc: Global, name: &Text, size: u64, total: u64) -> Result<Text, Memory>

@@ -1,15 +1,17 @@
 ghost use Rattle.std.specs.Prelude.{◌≡◌, ◌<◌, ◌++◌, [], ◌∷◌, List, ℕ, length, IfOk, OnOk, cond, codes, reverse};
 ghost use Rattle.std.specs.List.{All, flat_map};
-ghost use Rattle.hv_plain.specs.Name.{AllOptionNames};
-ghost use Rattle.hv_plain.specs.Program.{Literal, Statement, IsProgramText, shown, literal_tokens, statement_tokens, program_tokens, call_tokens, declaration_tokens};
+ghost use Rattle.hv_model.specs.Name.{AllOptionNames};
+ghost use Rattle.hv_plain.specs.Program.{Literal, shown, literal_tokens, statement_tokens, call_tokens, declaration_tokens};
 ghost use Rattle.hv_plain.specs.Run.{variable_of, variables_of};
 ghost use Rattle.hv_encode.specs.Lines.{IsKnown};
-ghost use Rattle.hv_encode.specs.Lift.{HasOption, IsBegun, after, literal_of, part_of_test, test_in, statement_of, lifted, product_of};
+ghost use Rattle.hv_encode.specs.Lift.{HasOption, IsBegun, literal_of, part_of_test, test_in, statement_of, lifted};
+ghost use Rattle.hv_encode.specs.Presence.{IsMarked, IsPresenceOf, IsProductText, IsWritten};
 
 use crate::lift::{Group, pass};
 use crate::line::Line;
+use crate::presence::Presence;
 use hv_base::{Memory, Text};
-use hv_plain::Model;
+use hv_model::Model;
 use std::alloc::Global;
 
 /// What stands before the name in a literal.
@@ -21,8 +23,8 @@ fn sign(negated: bool) -> &'static [u8]
 
 /// Writes the group's literal.
 fn write_literal(text: &mut Text, model: &Model, group: Group) -> Result<(), Memory>
-    requires { HasOption model.now group }
-    ensures { OnOk result (text.new ≡ text.old ++ shown (literal_tokens (literal_of model.now group))) }
+    requires { HasOption model.now.names group }
+    ensures { OnOk result (text.new ≡ text.old ++ shown (literal_tokens (literal_of model.now.names group))) }
 {
     text.extend_from_slice(sign(group.negated))?;
     text.extend_from_slice(model.name(group.option).as_bytes())?;
@@ -39,9 +41,9 @@ fn opening(tested: bool) -> &'static [u8]
 /// Writes the group's part of a test of which there is a part already if `tested`, and tells whether there
 /// is one then.
 fn write_part(text: &mut Text, model: &Model, group: Group, tested: bool) -> Result<bool, Memory>
-    requires { HasOption model.now group }
+    requires { HasOption model.now.names group }
     ensures { IfOk result (λ now. (before : List ℕ) (test : List Literal) → IsBegun before test text.old tested
-        → IsBegun before (test ++ part_of_test model.now group) text.new now) }
+        → IsBegun before (test ++ part_of_test model.now.names group) text.new now) }
 {
     if group.repeated {
         return Ok(tested);
@@ -70,8 +72,8 @@ fn write_call(text: &mut Text, byte: u8) -> Result<(), Memory>
 
 /// Writes the statement that puts the byte in these groups, of which the outermost comes first.
 fn write_statement(text: &mut Text, model: &Model, groups: &[Group], byte: u8) -> Result<(), Memory>
-    requires { All (HasOption model.now) groups.now }
-    ensures { OnOk result (text.new ≡ text.old ++ shown (flat_map statement_tokens (record { test = test_in model.now (reverse groups.now); byte = byte } ∷ []))) }
+    requires { All (HasOption model.now.names) groups.now }
+    ensures { OnOk result (text.new ≡ text.old ++ shown (flat_map statement_tokens (record { test = test_in model.now.names (reverse groups.now); byte = byte } ∷ []))) }
 {
     let mut tested = false;
     for group in groups {
@@ -81,30 +83,61 @@ fn write_statement(text: &mut Text, model: &Model, groups: &[Group], byte: u8) -
     write_call(text, byte)
 }
 
+/// Writes the statement that puts the byte in these groups, of which the outermost comes first, unless no
+/// valid configuration reads them all.
+fn write_put(
+    text: &mut Text,
+    model: &Model,
+    presence: &mut Presence,
+    groups: &[Group],
+    byte: u8,
+) -> Result<(), Memory>
+    requires presence { IsPresenceOf model.now presence.old }
+    requires options { All (HasOption model.now.names) groups.now }
+    requires marked { IsMarked (reverse groups.now) }
+    ensures presence { IsPresenceOf model.now presence.new }
+    ensures written { OnOk result (IsWritten model.now (record { test = test_in model.now.names (reverse groups.now); byte = byte } ∷ []) text.old text.new) }
+{
+    if !presence.is_reached(groups)? {
+        return Ok(());
+    }
+    write_statement(text, model, groups, byte)
+}
+
 /// Writes what the line becomes in these groups, of which the outermost comes first.
-fn write_line(text: &mut Text, model: &Model, groups: &[Group], line: Line) -> Result<(), Memory>
-    requires { All (HasOption model.now) groups.now }
-    ensures { OnOk result (text.new ≡ text.old ++ shown (flat_map statement_tokens (statement_of model.now (reverse groups.now) line))) }
+fn write_line(
+    text: &mut Text,
+    model: &Model,
+    presence: &mut Presence,
+    groups: &[Group],
+    line: Line,
+) -> Result<(), Memory>
+    requires presence { IsPresenceOf model.now presence.old }
+    requires options { All (HasOption model.now.names) groups.now }
+    requires marked { IsMarked (reverse groups.now) }
+    ensures presence { IsPresenceOf model.now presence.new }
+    ensures written { OnOk result (IsWritten model.now (statement_of model.now.names (reverse groups.now) line) text.old text.new) }
 {
     match line {
-        Line::Put(byte) => write_statement(text, model, groups, byte),
+        Line::Put(byte) => write_put(text, model, presence, groups, byte),
         _ => Ok(()),
     }
 }
 
-/// Writes the statements of a body.
+/// Writes the statements of a body that a valid configuration runs.
 fn write_statements(
     alloc: Global,
     text: &mut Text,
     model: &Model,
     lines: &[Line],
 ) -> Result<(), Memory>
-    requires { All (IsKnown model.now) lines.now }
-    ensures { OnOk result (text.new ≡ text.old ++ shown (flat_map statement_tokens (lifted model.now [] lines.now))) }
+    requires { All (IsKnown model.now.names) lines.now }
+    ensures { OnOk result (IsWritten model.now (lifted model.now.names [] lines.now) text.old text.new) }
 {
+    let mut presence = Presence::new(alloc, model)?;
     let mut groups = Vec::new(alloc);
     for line in lines {
-        write_line(text, model, groups.as_slice(), *line)?;
+        write_line(text, model, &mut presence, groups.as_slice(), *line)?;
         pass(&mut groups, *line)?;
     }
     Ok(())
@@ -121,8 +154,8 @@ fn write_declaration(text: &mut Text, name: &str) -> Result<(), Memory>
 
 /// Writes the declarations of the variables of a model's options.
 fn write_declarations(text: &mut Text, model: &Model) -> Result<(), Memory>
-    ensures text { OnOk result (text.new ≡ text.old ++ shown (flat_map declaration_tokens (variables_of model.now))) }
-    ensures names { AllOptionNames model.now }
+    ensures text { OnOk result (text.new ≡ text.old ++ shown (flat_map declaration_tokens (variables_of model.now.names))) }
+    ensures names { AllOptionNames model.now.names }
 {
     for option in 0..model.options() {
         write_declaration(text, model.name(option))?;
@@ -132,9 +165,8 @@ fn write_declarations(text: &mut Text, model: &Model) -> Result<(), Memory>
 
 /// The metaproduct of a body, printed.
 pub fn print_product(alloc: Global, model: &Model, lines: &[Line]) -> Result<Text, Memory>
-    requires { All (IsKnown model.now) lines.now }
-    ensures printed { IfOk result (λ text. text ≡ shown (program_tokens (product_of model.now lines.now))) }
-    ensures reads { IfOk result (λ text. IsProgramText (variables_of model.now) text (product_of model.now lines.now)) }
+    requires { All (IsKnown model.now.names) lines.now }
+    ensures { IfOk result (IsProductText model.now lines.now) }
 {
     let mut text = Text::new(alloc);
     write_declarations(&mut text, model)?;

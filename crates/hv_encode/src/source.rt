@@ -7,13 +7,13 @@ use crate::body::{behind_line, body_of};
 use crate::line::Line;
 use crate::nesting::is_nested;
 use hv_base::Memory;
-use hv_plain::Model;
+use hv_model::Model;
 use std::alloc::Global;
 
 /// Whether no option has a name that every small source uses.
 fn is_free(model: &Model) -> bool
-    ensures free { IsTrue result → IsFree model.now }
-    ensures taken { IsFree model.now → IsTrue result }
+    ensures free { IsTrue result → IsFree model.now.names }
+    ensures taken { IsFree model.now.names → IsTrue result }
 {
     model.position(b"main").is_none() && model.position(b"putchar").is_none()
 }
@@ -32,9 +32,9 @@ fn behind_head(source: &[u8]) -> Option<&[u8]>
 
 /// The body of a small source, unless the source is none.
 pub fn lines_of(alloc: Global, model: &Model, source: &[u8]) -> Result<Option<Vec<Line>>, Memory>
-    ensures known { IfOk result (λ answer. IfSome answer (λ lines. All (IsKnown model.now) lines.items)) }
-    ensures some { IfOk result (λ answer. IfSome answer (λ lines. IsSmallSource model.now source.now (map (plain model.now) lines.items))) }
-    ensures none { IfOk result (λ answer. IfNone answer ((body : List PlainLine) → ¬ (IsSmallSource model.now source.now body))) }
+    ensures known { IfOk result (λ answer. IfSome answer (λ lines. All (IsKnown model.now.names) lines.items)) }
+    ensures some { IfOk result (λ answer. IfSome answer (λ lines. IsSmallSource model.now.names source.now (map (plain model.now.names) lines.items))) }
+    ensures none { IfOk result (λ answer. IfNone answer ((body : List PlainLine) → ¬ (IsSmallSource model.now.names source.now body))) }
 {
     if !is_free(model) {
         return Ok(None);

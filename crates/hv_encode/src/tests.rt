@@ -1,6 +1,6 @@
 use super::*;
 use hv_base::{Memory, Text};
-use hv_plain::Model;
+use hv_model::Model;
 use std::alloc::Global;
 use std::test::Fail;
 

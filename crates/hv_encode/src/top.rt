@@ -1,8 +1,10 @@
 ghost use Rattle.std.specs.Prelude.{◌≡◌, List, ℕ, Some, None, IsTrue, map};
 ghost use Rattle.std.specs.String.{string_bytes};
-ghost use Rattle.hv_plain.specs.declared.model.ModelFault.{ModelFault};
-ghost use Rattle.hv_plain.specs.declared.model.ModelKind.{ModelKind};
-ghost use Rattle.hv_plain.specs.ModelFile.{model_of, options, fault};
+ghost use Rattle.hv_model.specs.declared.faults.ModelFault.{ModelFault};
+ghost use Rattle.hv_model.specs.declared.faults.ModelKind.{ModelKind};
+ghost use Rattle.hv_model.specs.Lines.{Says, fault};
+ghost use Rattle.hv_model.specs.Model.{IsModelOf};
+ghost use Rattle.hv_model.specs.Rule.{Features};
 ghost use Rattle.hv_plain.specs.Source.{Line, IsSmallSource};
 ghost use Rattle.hv_encode.specs.declared.answer.Answer.{Answer};
 ghost use Rattle.hv_encode.specs.Due.{Command, IsUntouched, command_of, reads};
@@ -36,9 +38,9 @@ pub fn hercules<F: Files, I: Source, O: Sink, E: Sink>(
     ensures encoded { (result ≡ 0) → (text : List ℕ) × Answers (map string_bytes words.now)
         (reads F.told F.held F.faults F.absences F.failed_name files.old files.new)
         (writes O.written O.faults out.old out.new E.written E.faults err.old err.new) result (Answer.Encoded text) }
-    ensures left_out { (result ≡ 1) → (file : List ℕ) × Answers (map string_bytes words.now)
+    ensures left_out { (result ≡ 1) → (config : List ℕ) × (file : List ℕ) × Answers (map string_bytes words.now)
         (reads F.told F.held F.faults F.absences F.failed_name files.old files.new)
-        (writes O.written O.faults out.old out.new E.written E.faults err.old err.new) result (Answer.LeftOut file) }
+        (writes O.written O.faults out.old out.new E.written E.faults err.old err.new) result (Answer.LeftOut config file) }
     ensures bad_words { (result ≡ 2) → Answers (map string_bytes words.now)
         (reads F.told F.held F.faults F.absences F.failed_name files.old files.new)
         (writes O.written O.faults out.old out.new E.written E.faults err.old err.new) result Answer.BadWords }
@@ -70,11 +72,11 @@ pub fn hercules<F: Files, I: Source, O: Sink, E: Sink>(
     ensures bad_model_where { (command : Command) (model_file source : List ℕ) (line : ℕ) (kind : ModelKind)
         → command_of (map string_bytes words.now) ≡ Some command
         → AreRead (reads F.told F.held F.faults F.absences F.failed_name files.old files.new) command model_file source
-        → model_of model_file ≡ fault line kind → IsOrFails 7 result }
-    ensures left_out_where { (command : Command) (model_file source : List ℕ) (names : List (List ℕ))
+        → Says model_file (fault line kind) → IsOrFails 7 result }
+    ensures left_out_where { (command : Command) (model_file source : List ℕ) (model : Features)
         → command_of (map string_bytes words.now) ≡ Some command
         → AreRead (reads F.told F.held F.faults F.absences F.failed_name files.old files.new) command model_file source
-        → model_of model_file ≡ options names → ((body : List Line) → ¬ (IsSmallSource names source body)) → IsOrFails 1 result }
+        → IsModelOf model_file model → ((body : List Line) → ¬ (IsSmallSource model.names source body)) → IsOrFails 1 result }
     ensures complete { IsGood (map string_bytes words.now)
         (reads F.told F.held F.faults F.absences F.failed_name files.old files.new)
         (writes O.written O.faults out.old out.new E.written E.faults err.old err.new) → Succeeds (map string_bytes words.now)

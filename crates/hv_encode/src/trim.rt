@@ -1,7 +1,8 @@
 ghost use Rattle.std.specs.Prelude.{◌≡◌, reverse};
-ghost use Rattle.hv_plain.specs.Bytes.{without_front_blanks as without_front, trimmed as trimmed_text};
+ghost use Rattle.hv_model.specs.Bytes.{without_front_blanks as without_front};
+ghost use Rattle.hv_plain.specs.Bytes.{trimmed as trimmed_text};
 
-use hv_plain::is_blank;
+use hv_model::is_blank;
 
 /// The text without the blanks at its front.
 fn without_front_blanks(text: &[u8]) -> &[u8]

@@ -1,16 +1,16 @@
 -- Reading model files line by line.
-use Rattle.std.proofs.Common.{◌≡◌, ℕ, ◌+◌, ◌<◌, ◌≤◌, Bool, true, false, ◌&&◌, List, [], ◌∷◌, ◌++◌, refl, sym, ◌∙◌, ap, subst, arith, length, get_or, map, length-append, Option, Some, None}
-use Rattle.std.specs.Prelude.{Result, Ok, Err, OnOk, OnErr, IfErr, IfSome, IsNone, MatchBool, nat_lt, is_some, ◌↔◌}
+use Rattle.std.proofs.Common.{◌≡◌, ℕ, ◌+◌, ◌<◌, ◌≤◌, Bool, true, false, ◌&&◌, List, [], ◌∷◌, ◌++◌, refl, sym, ◌∙◌, ap, subst, arith, length, get_or, map, length-append, Option, Some}
+use Rattle.std.specs.Prelude.{Result, Ok, Err, OnOk, OnErr, IfErr, IfSome, nat_lt}
 use Rattle.std.specs.List.{list_all, list_any}
 use Rattle.std.specs.Str.{bytes_eq}
 use Rattle.std.proofs.lemmas.Bool.Decides.{nat_tests}
 use Rattle.std.proofs.lemmas.List.{map-append}
-use Rattle.hv_cond.specs.Diagram.{Diagram, IsNever, IsLeast, holds}
+use Rattle.hv_cond.specs.Diagram.{Diagram, IsLeast, holds}
 use Rattle.hv_cond.specs.declared.conditions.Cond.{Cond}
-use Rattle.hv_model.specs.Lines.{Reading, model, fault, Reads, ends, no_configuration, option, rule, line_of, option_line, rule_line}
+use Rattle.hv_model.specs.Lines.{Reading, model, fault, Reads, ends, no_configuration, says_nothing, bad, option, repeated, too_many, rule, unknown, no_rule, line_of, option_line, rule_line}
 use Rattle.hv_model.specs.Grammar.{IsRule}
 use Rattle.hv_model.specs.Model.{AllFit, IsRefusalIn}
-use Rattle.hv_model.specs.Rule.{Features, Rule, IsValid, is_about, meets_all}
+use Rattle.hv_model.specs.Rule.{Features, Rule, IsLeastValid, IsValid, is_about, meets_all}
 use Rattle.hv_model.specs.Steps.{fits, rule_of}
 use Rattle.hv_model.specs.Token.{Token}
 use Rattle.hv_model.specs.declared.code.Step.{Step}
@@ -79,23 +79,31 @@ rule_added names codes now code n line ts more o e about l r h =
     rule l r about
     (subst (λ rs. Reads (record { names = names; rules = rs }) (n + 1) more o) (ap (map rule_of) e ∙ map-append rule_of codes (code ∷ [])) h)
 
-contrary : (b : Bool) → b ≡ false → b ≡ true → ⊥
-contrary b e f = cc
+-- the first assignment that satisfies the condition of the valid configurations is the least of these
+pub least_picked : {X : Type 0} (items : X → List Bool) (m : Features) (d : Diagram) (c : Cond) (found : Option X) (v : X) → found ≡ Some v → IfSome found (λ v. IsLeast d c (items v))
+    → d.variables ≡ length m.names → ((values : List Bool) → holds d c values ≡ meets_all values m.rules) → IsLeastValid m (items v)
+least_picked items m d c found v is least n e =
+    let picked : IsLeast d c (items v) = subst (λ f. IfSome f (λ v. IsLeast d c (items v))) is least in
+    record {
+      valid = (picked.all_variables ∙ n, sym (e (items v)) ∙ picked.satisfies);
+      first = λ others valid. picked.first others (valid.0 ∙ sym n) (e others ∙ valid.1);
+    }
 
-pub has_valid : {X : Type 0} (items : X → List Bool) (m : Features) (d : Diagram) (c : Cond) (found : Option X) → (IsNone found ↔ IsNever d c) → IfSome found (λ v. IsLeast d c (items v))
-    → d.variables ≡ length m.names → ((values : List Bool) → holds d c values ≡ meets_all values m.rules)
-    → MatchBool (is_some found) ((values : List Bool) × IsValid m values) ((values : List Bool) → IsValid m values → ⊥)
-has_valid items m d c None none least n e = λ values valid.
-    contrary (holds d c values) (none.0 refl values (valid.0 ∙ sym n)) (e values ∙ valid.1)
-has_valid items m d c (Some v) none least n e = (items v, (least.all_variables ∙ n, sym (e (items v)) ∙ least.satisfies))
-
-pub valid_given : (m : Features) (has : Bool) → has ≡ true → MatchBool has ((values : List Bool) × IsValid m values) ((values : List Bool) → IsValid m values → ⊥) → (values : List Bool) × IsValid m values
-valid_given m true e h = h
-valid_given m false e h = cc
-
-pub none_given : (m : Features) (has : Bool) → has ≡ false → MatchBool has ((values : List Bool) × IsValid m values) ((values : List Bool) → IsValid m values → ⊥) → (values : List Bool) → IsValid m values → ⊥
-none_given m false e h = h
-none_given m true e h = cc
+-- a file that says a model says one with a valid configuration
+pub reads_valid : {m f : Features} {n : ℕ} {lines : List (List ℕ)} {o : Reading} → o ≡ model f → Reads m n lines o → (values : List Bool) × IsValid f values
+reads_valid {m} {f} {n} {lines} {o} e (ends values valid) = (values, subst (λ x. IsValid x values) (same_model e) valid)
+  where
+    same_model : {a b : Features} → model a ≡ model b → a ≡ b
+    same_model e = cc
+reads_valid {m} {f} {n} {lines} {o} e (no_configuration h) = cc
+reads_valid {m} {f} {n} {lines} {o} e (says_nothing x d) = reads_valid e d
+reads_valid {m} {f} {n} {lines} {o} e (bad x) = cc
+reads_valid {m} {f} {n} {lines} {o} e (option {name = name} x fresh lt d) = reads_valid e d
+reads_valid {m} {f} {n} {lines} {o} e (repeated {name = name} x known) = cc
+reads_valid {m} {f} {n} {lines} {o} e (too_many {name = name} x fresh full) = cc
+reads_valid {m} {f} {n} {lines} {o} e (rule {ts = ts} {r = r} x said about d) = reads_valid e d
+reads_valid {m} {f} {n} {lines} {o} e (unknown {ts = ts} {r = r} x said about) = cc
+reads_valid {m} {f} {n} {lines} {o} e (no_rule {ts = ts} x none) = cc
 
 pub reads_end : (m : Features) (n : ℕ) (lines : List (List ℕ)) → lines ≡ [] → ((values : List Bool) × IsValid m values) → Reads m n lines (model m)
 reads_end m n lines e h = rw e (ends h.0 h.1)

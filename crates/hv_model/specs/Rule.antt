@@ -1,6 +1,7 @@
 -- Rules of a feature model, and valid configurations.
 use Rattle.std.specs.Prelude.{◌≡◌, ℕ, Bool, false, ◌&&◌, ◌||◌, not, nat_lt, List, length, IsTrue}
 use Rattle.std.specs.List.{list_all, slice_index_or}
+use Rattle.hv_cond.specs.Diagram.{IsBefore}
 
 pub data Rule : Type 0 where
   option : ℕ → Rule
@@ -36,3 +37,8 @@ meets_all values rules = list_all (meets values) rules
 -- a configuration gives each option a value; it is valid where it meets every rule
 abbrev pub IsValid : Features → List Bool → Type 0
 IsValid model values = (length values ≡ length model.names) × IsTrue (meets_all values model.rules)
+
+-- the least valid configuration: no valid one has, at the first option where they differ, that option off and this one on
+pub record IsLeastValid (model : Features) (values : List Bool) : Type 0 where
+  pub valid : IsValid model values
+  pub first : (others : List Bool) → IsValid model others → ¬ IsBefore others values

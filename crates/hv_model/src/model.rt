@@ -1,5 +1,5 @@
 //! Feature models and model files.
-ghost use Rattle.std.specs.Prelude.{◌≡◌, ◌+◌, ◌<◌, ◌≤◌, ◌↔◌, [], ◌∷◌, ◌++◌, ℕ, Bool, List, Some, false, true, slice_get, position, length, map, IfErr, IfOk, IsTrue, MatchBool, OnOk};
+ghost use Rattle.std.specs.Prelude.{◌≡◌, ◌+◌, ◌<◌, ◌≤◌, ◌↔◌, [], ◌∷◌, ◌++◌, ℕ, Bool, List, Some, false, true, slice_get, position, length, map, IfErr, IfNone, IfOk, IfSome, IsTrue, OnOk};
 ghost use Rattle.std.specs.List.{list_all, list_any};
 ghost use Rattle.std.specs.Str.{bytes_eq};
 ghost use Rattle.hv_cond.specs.Diagram.{IsNode, Keeps, holds};
@@ -7,7 +7,7 @@ ghost use Rattle.hv_model.specs.Grammar.{IsRule};
 ghost use Rattle.hv_model.specs.Lines.{Reading, Reads, SaysOne, line_of, option_line, rule_line, bad_line};
 ghost use Rattle.hv_model.specs.Model.{AllFit, IsModelOf, IsRefusalIn, IsRefusalOf};
 ghost use Rattle.hv_model.specs.Name.{AllOptionNames, are_distinct, is_option_name as option_name};
-ghost use Rattle.hv_model.specs.Rule.{Features, IsValid, is_about, meets_all};
+ghost use Rattle.hv_model.specs.Rule.{Features, IsLeastValid, IsValid, is_about, meets_all};
 ghost use Rattle.hv_model.specs.Steps.{fits, rule_of};
 ghost use Rattle.hv_model.specs.Token.{Token, tokens};
 ghost use Rattle.hv_model.specs.Bytes.{without_return};
@@ -19,7 +19,7 @@ use crate::faults::{ModelFault, ModelKind, ModelRefusal};
 use crate::lines::{Line, read_line};
 use crate::names::{MOST_OPTIONS, Names};
 use crate::rules::read_rule;
-use hv_base::{Config, Memory};
+use hv_base::{Config, List, Memory};
 use hv_cond::{Cond, Store};
 use std::alloc::{AllocError, Global};
 
@@ -215,16 +215,21 @@ impl Model {
             Line::Bad => Err(bad(number, ModelKind::BadLine)),
         }
     }
+}
 
-    /// Whether a configuration is valid.
-    fn has_configuration(&self, alloc: Global) -> Result<bool, Memory>
-        ensures { IfOk result (λ has. MatchBool has ((values : List Bool) × IsValid self.now values) ((values : List Bool) → IsValid self.now values → ⊥)) }
-    {
-        let mut store = Store::new(alloc, self.options() as u32)?;
-        let valid = valid_cond(self, &mut store)?;
-        let first = store.pick(valid)?;
-        Ok(first.is_some())
-    }
+/// The least valid configuration, in the model's order and off before on, or `None` where none is valid.
+pub fn least_valid(alloc: Global, model: &Model) -> Result<Option<Config>, Memory>
+    ensures least { IfOk result (λ answer. IfSome answer (λ config. IsLeastValid model.now config.on)) }
+    ensures none { IfOk result (λ answer. IfNone answer ((values : List Bool) → ¬ (IsValid model.now values))) }
+{
+    let mut store = Store::new(alloc, model.options() as u32)?;
+    let valid = valid_cond(model, &mut store)?;
+    let Some(on) = store.pick(valid)? else {
+        return Ok(None);
+    };
+    Ok(Some(Config {
+        on: List::from_vec(on),
+    }))
 }
 
 /// One carriage return at a line's end is no part of it.
@@ -237,6 +242,7 @@ fn strip_return(line: &[u8]) -> &[u8]
 /// Reads a model file. The fault is the first one.
 pub fn read_model(alloc: Global, bytes: &[u8]) -> Result<Model, ModelRefusal>
     ensures accepted { IfOk result (IsModelOf bytes.now) }
+    ensures configuration { IfOk result (λ model. (values : List Bool) × IsValid model values) }
     ensures refused { IfErr result (IsRefusalOf bytes.now) }
     ensures one_reading { SaysOne bytes.now }
 {
@@ -248,9 +254,9 @@ pub fn read_model(alloc: Global, bytes: &[u8]) -> Result<Model, ModelRefusal>
         number += 1;
         rest = more;
     }
-    match model.has_configuration(alloc) {
-        Ok(true) => Ok(model),
-        Ok(false) => Err(bad(0, ModelKind::NoConfiguration)),
+    match least_valid(alloc, &model) {
+        Ok(Some(_)) => Ok(model),
+        Ok(None) => Err(bad(0, ModelKind::NoConfiguration)),
         Err(_) => Err(ModelRefusal::Memory),
     }
 }

@@ -9,6 +9,13 @@ use std::test::Fail;
 fn model_files_have_their_first_fault(rt: HostRuntime) {
     let table = [
         ("", None),
+        ("\n\n", None),
+        ("option A", None),
+        (" \toption\tA \t\n", None),
+        ("option A\r\noption B\r\n", None),
+        ("# option A\n\t #\noption _b9\n", None),
+        ("#\r", None),
+        ("\r\n", None),
         (
             "\n \t# option\n\toption  A \r\n \noption B\nrule(A=>!B)||B",
             None,
@@ -22,17 +29,30 @@ fn model_files_have_their_first_fault(rt: HostRuntime) {
         ("option A\nrule A & A\n", Some((2, ModelKind::BadLine))),
         ("option A\nrule (A\n", Some((2, ModelKind::BadLine))),
         ("option A\nrule A)\n", Some((2, ModelKind::BadLine))),
+        ("wrong\noption A\noption A\n", Some((1, ModelKind::BadLine))),
+        ("option\n", Some((1, ModelKind::BadLine))),
+        ("optionA\n", Some((1, ModelKind::BadLine))),
+        ("Option A\n", Some((1, ModelKind::BadLine))),
+        ("option A #\n", Some((1, ModelKind::BadLine))),
+        ("option a-b\n", Some((1, ModelKind::BadLine))),
+        ("option defined\n", Some((1, ModelKind::BadLine))),
+        ("option __LINE__\n", Some((1, ModelKind::BadLine))),
         ("option A B\n", Some((1, ModelKind::BadLine))),
         ("option 1A\n", Some((1, ModelKind::BadLine))),
         ("option int\n", Some((1, ModelKind::BadLine))),
         ("option hv_x\n", Some((1, ModelKind::BadLine))),
         ("option A\r\r\n", Some((1, ModelKind::BadLine))),
+        ("option A\noption A\n", Some((2, ModelKind::Repeated))),
         (
             "option A\n\noption A\nrule\n",
             Some((3, ModelKind::Repeated)),
         ),
         (
             "option A\nrule A\nrule !A\n",
+            Some((0, ModelKind::NoConfiguration)),
+        ),
+        (
+            "option A\noption B\nrule A && B\nrule !A\n",
             Some((0, ModelKind::NoConfiguration)),
         ),
         (
@@ -143,6 +163,75 @@ fn long_chains_and_deep_rules(rt: HostRuntime) -> Result<(), Fail> {
             Err(ModelRefusal::Memory) => 9,
         };
         assert_eq!(rt; found, line, "at {part:?}");
+    }
+    Ok(())
+}
+
+#[test]
+fn a_model_has_at_most_256_options(rt: HostRuntime) -> Result<(), Fail> {
+    let mut text = String::new(rt.alloc());
+    for number in 0..256u32 {
+        text.push_str("option O")?;
+        text.push_str(number.to_string(rt.alloc())?.as_str())?;
+        text.push_str("\n")?;
+    }
+    let Ok(model) = read_model(rt.alloc(), text.as_bytes()) else {
+        panic!(rt; "256 options are read");
+    };
+    assert_eq!(rt; model.options(), 256);
+    assert_eq!(rt; model.name(255), "O255");
+    text.push_str("option P\n")?;
+    match read_model(rt.alloc(), text.as_bytes()) {
+        Err(ModelRefusal::Bad(fault)) => {
+            assert_eq!(rt; fault.line, 257);
+            assert_eq!(rt; fault.kind.name(), "TooMany");
+            assert_eq!(rt; fault.kind.number(), 4);
+        }
+        _ => panic!(rt; "option 257 is refused"),
+    }
+    Ok(())
+}
+
+#[test]
+fn sixty_options_without_rules_are_always_valid(rt: HostRuntime) -> Result<(), Fail> {
+    let mut text = String::new(rt.alloc());
+    for number in 1..61u32 {
+        text.push_str("option O")?;
+        text.push_str(number.to_string(rt.alloc())?.as_str())?;
+        text.push_str("\n")?;
+    }
+    let Ok(model) = read_model(rt.alloc(), text.as_bytes()) else {
+        panic!(rt; "60 options are read");
+    };
+    assert_eq!(rt; model.options(), 60);
+    let mut store = Store::new(rt.alloc(), 60)?;
+    let valid = valid_cond(&model, &mut store)?;
+    assert!(rt; valid == store.truth());
+    Ok(())
+}
+
+#[test]
+fn the_least_valid_configuration_is_named(rt: HostRuntime) -> Result<(), Fail> {
+    let table = [
+        ("", ""),
+        ("option A\noption B\n", ""),
+        ("option A\noption B\nrule A => !B\nrule A || B\n", "B"),
+        ("option A\noption B\nrule A\n", "A"),
+        (
+            "option A\noption B\noption C\nrule A && B || A && C\n",
+            "A,C",
+        ),
+    ];
+    for (text, least) in table {
+        let Ok(model) = read_model(rt.alloc(), text.as_bytes()) else {
+            panic!(rt; "the model is read");
+        };
+        let Some(config) = least_valid(rt.alloc(), &model)? else {
+            panic!(rt; "a configuration is valid");
+        };
+        assert_eq!(rt; config.on.len(), model.options());
+        let printed = print_config(rt.alloc(), &model, &config)?;
+        assert_eq!(rt; printed.as_slice(), least.as_bytes(), "at {text:?}");
     }
     Ok(())
 }

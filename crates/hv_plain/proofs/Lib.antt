@@ -1,7 +1,4 @@
 pub mod ByteNumerals
-pub mod BytesLemmas
-pub mod ListLemmas
-pub mod NameLemmas
 pub mod OptionVariables
 pub mod Places
 mod Rows

@@ -3,12 +3,11 @@ use Rattle.std.proofs.Common.{◌≡◌, ◌≢◌, ℕ, suc, zero, ◌<◌, ◌
 use Rattle.std.specs.List.{position, Contains, slice_get}
 use Rattle.std.specs.Str.{bytes_eq}
 use Rattle.std.proofs.lemmas.Slice.Eq.{bytes_eq-Decides}
-use Rattle.std.proofs.lemmas.List.{take-append-drop, get_or-set_same, get_or-set_other, get_or-map}
+use Rattle.std.proofs.lemmas.List.{take-append-drop, get_or-set_same, get_or-set_other, get_or-map, length-map}
 use Rattle.std.proofs.lemmas.List.Quantifiers.{position-Some}
 use Rattle.std.proofs.lemmas.List.Elements.{Contains-append_left, Contains-append_right, Contains-append_cases}
 use Rattle.std.proofs.lemmas.Option.{none-some, slice_get-get_or}
 use Rattle.std.proofs.lemmas.Bool.Decides.{eqb_tells}
-use Rattle.hv_plain.proofs.ListLemmas.{length-map}
 use Rattle.hv_plain.proofs.Places.{position-exists, cond_value, get_or-replicate_default, Contains-single}
 use Rattle.hv_plain.specs.Run.{start, variable_of, variables_of}
 use Rattle.hv_plain.specs.SmallReader.{option_number, at_option, known_value, unknown}
@@ -30,7 +29,7 @@ get_or-variables : (names : List (List ℕ)) (i : ℕ) (d : List ℕ) → i < le
 get_or-variables names i d h = get_or-map variable_of names i [] d h
 
 length-variables : (names : List (List ℕ)) → length (variables_of names) ≡ length names
-length-variables names = length-map variable_of names
+length-variables names = length-map names variable_of
 
 -- exactly the variables of the model's options have numbers
 pub option_number-given : (names : List (List ℕ)) (v : List ℕ) → Contains (variables_of names) v → (i : ℕ) × (option_number names v ≡ Some i)

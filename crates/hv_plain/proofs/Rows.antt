@@ -2,13 +2,12 @@
 use Rattle.std.specs.Prelude.{ℕ, ◌≡◌, true, false, List, [], ◌∷◌, ◌++◌, map, codes, refl}
 use Rattle.std.specs.Fmt.{digits}
 use Rattle.std.specs.List.{slice_split}
-use Rattle.hv_plain.specs.Bytes.{is_newline, trimmed}
+use Rattle.hv_model.specs.Bytes.{is_newline}
+use Rattle.hv_plain.specs.Bytes.{trimmed}
 use Rattle.hv_plain.specs.Config.{is_on}
 use Rattle.hv_plain.specs.Source.{Line, put, if_defined, if_not_defined, otherwise, end_if, source_lines, is_nested, kept}
 use Rattle.hv_plain.specs.Program.{Program, program_tokens, shown}
 use Rattle.hv_plain.specs.Run.{start, output_of, variable_of}
-use Rattle.hv_plain.specs.ModelFile.{model_of, options, fault}
-use Rattle.hv_plain.specs.declared.model.ModelKind.TheVariants.{BadLine, Repeated}
 
 options_A : List (List ℕ)
 options_A = codes "A" ∷ []
@@ -60,12 +59,3 @@ printed_1 = refl
 output_with_A : output_of (start options_A (true ∷ [])) product_1.statements ≡ 120 ∷ 65 ∷ []
 unfolding product_1 options_A
 output_with_A = refl
-
-model_repeated : model_of (codes "option A\noption A\n") ≡ fault 2 Repeated
-model_repeated = refl
-
-model_forms : model_of (codes "\n# options\n\toption  A \r\n \noption B") ≡ options (codes "A" ∷ codes "B" ∷ [])
-model_forms = refl
-
-model_rule : model_of (codes "option A\nrule A\n") ≡ fault 2 BadLine
-model_rule = refl

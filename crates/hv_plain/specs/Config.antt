@@ -1,10 +1,6 @@
--- Configurations of a model without rules.
-use Rattle.std.specs.Prelude.{ℕ, ◌≡◌, Bool, false, cond, List, [], ◌∷◌, length}
+-- The values that a configuration gives to names.
+use Rattle.std.specs.Prelude.{ℕ, Bool, false, cond, List, [], ◌∷◌}
 use Rattle.std.specs.Str.{bytes_eq}
-
--- a configuration gives each option a value; without rules each one is valid
-abbrev pub IsValid : List (List ℕ) → List Bool → Type 0
-IsValid names values = length values ≡ length names
 
 -- whether the option of this name is on
 abbrev pub is_on : List (List ℕ) → List Bool → List ℕ → Bool

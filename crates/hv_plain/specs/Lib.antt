@@ -1,9 +1,5 @@
 pub mod Bytes
 pub mod Config
-pub mod Model
-pub mod ModelFile
-pub mod ModelKind
-pub mod Name
 pub mod Program
 pub mod Run
 pub mod SmallReader

@@ -1,8 +1,9 @@
 -- What small programs do, the variant of a small source, and what it is to encode one.
-use Rattle.std.specs.Prelude.{ℕ, ◌≡◌, ◌≢◌, Bool, cond, not, ◌==◌, ◌≤◌, List, [], ◌∷◌, ◌++◌, length, map, codes, All, AllPairs, count_by}
+use Rattle.std.specs.Prelude.{ℕ, ◌≡◌, ◌≢◌, Bool, cond, not, ◌==◌, ◌≤◌, List, [], ◌∷◌, ◌++◌, length, map, codes, All, AllPairs, IsTrue, count_by}
 use Rattle.std.specs.List.{list_all}
 use Rattle.std.specs.Str.{bytes_eq}
-use Rattle.hv_plain.specs.Config.{IsValid, is_on}
+use Rattle.hv_model.specs.Rule.{Features, IsValid}
+use Rattle.hv_plain.specs.Config.{is_on}
 use Rattle.hv_plain.specs.Source.{Line, IsSmallSource, is_put, kept}
 use Rattle.hv_plain.specs.Program.{Literal, Statement, Program, IsProgramText, program_tokens, shown}
 
@@ -71,22 +72,34 @@ pub record IsVariant (options : List (List ℕ)) (source : List ℕ) (values : L
 
 -- for every valid configuration, input and number of steps in which the variant meets no undefined
 -- behaviour, the product's run from the configuration's start is the variant's run
-pub record RunsAsVariants (options : List (List ℕ)) (source : List ℕ) (product : Program) : Type 0 where
-  pub agrees : (values : List Bool) → IsValid options values → (variant : Program) → IsVariant options source values variant → (input : List ℕ) (steps : ℕ)
+pub record RunsAsVariants (model : Features) (source : List ℕ) (product : Program) : Type 0 where
+  pub agrees : (values : List Bool) → IsValid model values → (variant : Program) → IsVariant model.names source values variant → (input : List ℕ) (steps : ℕ)
       → (run variant no_start input steps).ending ≢ undefined
-      → run product (start options values) input steps ≡ run variant no_start input steps
+      → run product (start model.names values) input steps ≡ run variant no_start input steps
 
 -- a test in which no literal stands twice
 abbrev pub IsConcise : Statement → Type 0
 IsConcise statement = AllPairs (λ one other. one ≢ other) statement.test
 
+-- the statement is run from the start of this configuration
+abbrev pub IsRunIn : List (List ℕ) → List Bool → Statement → Type 0
+IsRunIn options values statement = IsTrue (list_all (literal_holds (start options values)) statement.test)
+
+-- a valid configuration runs the statement
+pub record IsReached (model : Features) (statement : Statement) : Type 0 where
+  pub values : List Bool
+  pub valid : IsValid model values
+  pub runs : IsRunIn model.names values statement
+
 -- the text is a typed program, one for all configurations, that runs as the source's variants; it is
--- printed, declares the model's variables in order, and has at most one statement for each of the source
-pub record Encodes (options : List (List ℕ)) (source : List ℕ) (text : List ℕ) : Type 0 where
+-- printed, declares the model's variables in order, and has at most one statement for each of the source,
+-- none of which no valid configuration has
+pub record Encodes (model : Features) (source : List ℕ) (text : List ℕ) : Type 0 where
   pub product : Program
-  pub reads : IsProgramText (variables_of options) text product
-  pub runs : RunsAsVariants options source product
+  pub reads : IsProgramText (variables_of model.names) text product
+  pub runs : RunsAsVariants model source product
   pub printed : text ≡ shown (program_tokens product)
-  pub variables : product.variables ≡ variables_of options
-  pub size : (body : List Line) → IsSmallSource options source body → length product.statements ≤ count_by is_put body
+  pub variables : product.variables ≡ variables_of model.names
+  pub size : (body : List Line) → IsSmallSource model.names source body → length product.statements ≤ count_by is_put body
   pub concise : All IsConcise product.statements
+  pub reached : All (IsReached model) product.statements

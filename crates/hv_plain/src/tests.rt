@@ -1,5 +1,6 @@
 use super::*;
 use hv_base::{Config, List};
+use hv_model::{Model, read_model};
 use std::test::Fail;
 
 #[test]
@@ -135,70 +136,6 @@ fn small_programs_test_their_options(rt: HostRuntime) -> Result<(), Fail> {
                 "at {text:?}"
             );
         }
-    }
-    Ok(())
-}
-
-#[test]
-fn model_files_are_read_line_by_line(rt: HostRuntime) {
-    // The number of options, or the line and the number of the first fault.
-    let table = [
-        ("", Ok(0)),
-        ("\n\n", Ok(0)),
-        ("option A\n", Ok(1)),
-        ("option A", Ok(1)),
-        (" \toption\tA \t\n", Ok(1)),
-        ("option A\r\noption B\r\n", Ok(2)),
-        ("# option A\n\t #\noption _b9\n", Ok(1)),
-        ("#\r", Ok(0)),
-        ("\r\n", Ok(0)),
-        ("option A\noption A\n", Err((2, 2))),
-        ("option A\n\noption B\noption A\nwrong\n", Err((4, 2))),
-        ("wrong\noption A\noption A\n", Err((1, 1))),
-        ("option\n", Err((1, 1))),
-        ("option A B\n", Err((1, 1))),
-        ("optionA\n", Err((1, 1))),
-        ("Option A\n", Err((1, 1))),
-        ("option 9\n", Err((1, 1))),
-        ("option a-b\n", Err((1, 1))),
-        ("option hv_a\n", Err((1, 1))),
-        ("option int\n", Err((1, 1))),
-        ("option defined\n", Err((1, 1))),
-        ("option __LINE__\n", Err((1, 1))),
-        ("option A #\n", Err((1, 1))),
-        ("option A\r\r\n", Err((1, 1))),
-        ("option A\nrule A\n", Err((2, 1))),
-    ];
-    for (text, wanted) in table {
-        let got = match read_model(rt.alloc(), text.as_bytes()) {
-            Ok(model) => Ok(model.options()),
-            Err(ModelRefusal::Bad(fault)) => Err((fault.line, fault.kind.number())),
-            Err(ModelRefusal::Memory) => Err((0, 0)),
-        };
-        assert_eq!(rt; got, wanted, "at {text:?}");
-    }
-}
-
-#[test]
-fn a_model_has_at_most_256_options(rt: HostRuntime) -> Result<(), Fail> {
-    let mut text = String::new(rt.alloc());
-    for number in 0..256u32 {
-        text.push_str("option O")?;
-        text.push_str(number.to_string(rt.alloc())?.as_str())?;
-        text.push_str("\n")?;
-    }
-    let Ok(model) = read_model(rt.alloc(), text.as_bytes()) else {
-        panic!(rt; "256 options are read");
-    };
-    assert_eq!(rt; model.options(), 256);
-    assert_eq!(rt; model.name(255), "O255");
-    text.push_str("option P\n")?;
-    match read_model(rt.alloc(), text.as_bytes()) {
-        Err(ModelRefusal::Bad(fault)) => {
-            assert_eq!(rt; fault.line, 257);
-            assert_eq!(rt; fault.kind.name(), "TooMany");
-        }
-        _ => panic!(rt; "option 257 is refused"),
     }
     Ok(())
 }

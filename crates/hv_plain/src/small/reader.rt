@@ -4,8 +4,8 @@ ghost use Rattle.hv_plain.specs.Bytes.{is_gap};
 ghost use Rattle.hv_plain.specs.declared.small.reader.Action.TheVariants.{Nothing};
 ghost use Rattle.hv_plain.specs.SmallReader.{IsWithin, answer, behind_byte, behind_negated, byte_of, declared, known_value, is_done, known_after, next, next_at_operand, next_behind_operand, next_in, next_in_body, next_in_declarations, option_number, output_after, reading, reading_of, wanted_of};
 
-use crate::Model;
 use hv_base::{Config, Memory, Text};
+use hv_model::Model;
 use std::alloc::Global;
 
 /// The tokens from the declaration of `putchar` to the brace that opens `main`, but for the first.
@@ -80,15 +80,15 @@ fn is_gap(byte: u8) -> bool
 
 /// The number of the option that the variable `token` stands for.
 fn option_number(model: &Model, token: &[u8]) -> Option<usize>
-    ensures { result ≡ option_number model.now token.now }
+    ensures { result ≡ option_number model.now.names token.now }
 {
     model.position(token.strip_prefix(b"hv_opt_")?)
 }
 
 /// The value of the variable `token`, if it is declared.
 fn known_value(model: &Model, known: &[Option<bool>], token: &[u8]) -> Option<bool>
-    requires { length known.now ≡ length model.now }
-    ensures { result ≡ known_value model.now known.now token.now }
+    requires { length known.now ≡ length model.now.names }
+    ensures { result ≡ known_value model.now.names known.now token.now }
 {
     known[option_number(model, token)?]
 }
@@ -151,8 +151,8 @@ fn next_behind_operand(holds: bool, token: &[u8]) -> Option<Step>
 
 /// Reads the `!` or the variable at which a literal begins.
 fn next_at_operand(holds: bool, model: &Model, known: &[Option<bool>], token: &[u8]) -> Option<Step>
-    requires { length known.now ≡ length model.now }
-    ensures { option_map reading_of result ≡ next_at_operand holds (known_value model.now known.now token.now) token.now }
+    requires { length known.now ≡ length model.now.names }
+    ensures { option_map reading_of result ≡ next_at_operand holds (known_value model.now.names known.now token.now) token.now }
 {
     if token == b"!".as_slice() {
         Some(Step::to(&[], State::Negated(holds)))
@@ -164,8 +164,8 @@ fn next_at_operand(holds: bool, model: &Model, known: &[Option<bool>], token: &[
 
 /// Reads the variable of a negated literal.
 fn next_at_negated(holds: bool, model: &Model, known: &[Option<bool>], token: &[u8]) -> Option<Step>
-    requires { length known.now ≡ length model.now }
-    ensures { option_map reading_of result ≡ behind_negated holds (known_value model.now known.now token.now) }
+    requires { length known.now ≡ length model.now.names }
+    ensures { option_map reading_of result ≡ behind_negated holds (known_value model.now.names known.now token.now) }
 {
     let value = known_value(model, known, token)?;
     Some(Step::to(&[], State::AfterOperand(holds && !value)))
@@ -191,7 +191,7 @@ fn next_at_byte(holds: bool, token: &[u8]) -> Option<Step>
 
 /// Reads the name of a variable that is declared.
 fn next_at_variable(model: &Model, token: &[u8]) -> Option<Step>
-    ensures { option_map reading_of result ≡ declared (option_number model.now token.now) }
+    ensures { option_map reading_of result ≡ declared (option_number model.now.names token.now) }
 {
     let option = option_number(model, token)?;
     Some(Step {
@@ -206,8 +206,8 @@ fn next_at_variable(model: &Model, token: &[u8]) -> Option<Step>
 impl State {
     /// Reads the token at which this state is.
     fn next(self, model: &Model, known: &[Option<bool>], token: &[u8]) -> Option<Step>
-        requires { length known.now ≡ length model.now }
-        ensures { option_map reading_of result ≡ next_in model.now known.now self token.now }
+        requires { length known.now ≡ length model.now.names }
+        ensures { option_map reading_of result ≡ next_in model.now.names known.now self token.now }
     {
         match self {
             State::Declarations => next_in_declarations(token),
@@ -225,8 +225,8 @@ impl State {
 impl Due {
     /// Reads the token at which this is due.
     fn next(self, model: &Model, known: &[Option<bool>], token: &[u8]) -> Option<Step>
-        requires { length known.now ≡ length model.now }
-        ensures { option_map reading_of result ≡ next model.now known.now (wanted_of self) token.now }
+        requires { length known.now ≡ length model.now.names }
+        ensures { option_map reading_of result ≡ next model.now.names known.now (wanted_of self) token.now }
     {
         match self.words {
             [] => self.state.next(model, known, token),
@@ -277,7 +277,7 @@ pub fn read(
     model: &Model,
     config: &Config,
 ) -> Result<Option<Text>, Memory>
-    ensures { IfOk result (λ output. output ≡ answer model.now config.now.on text.now) }
+    ensures { IfOk result (λ output. output ≡ answer model.now.names config.now.on text.now) }
 {
     let mut known = vec![in alloc; None; model.options()]?;
     let mut output = Text::new(alloc);

@@ -8,7 +8,7 @@ returns c =
     let start = c.args.text.now in
     let one = c.extend_from_slice.new.self in
     let negated = c.args.group.negated in
-    let names = c.args.model.now in
+    let names = c.args.model.now.names in
     let name = name_at names c.args.group.option in
     wrote_three c.extend_from_slice-3.result start one c.extend_from_slice-2.new.self c.extend_from_slice-3.new.self
     (cond negated (codes "! hv_opt_") (codes "hv_opt_")) name (codes " ") _

@@ -5,7 +5,7 @@ use Rattle.hv_encode.proofs.print.write_part.Goals as goal
 
 pub returns : goal.returns
 returns c = λ before test begun.
-    let literal = literal_of c.args.model.now c.args.group in
+    let literal = literal_of c.args.model.now.names c.args.group in
     let text = c.write_literal.new.text in
     begun_part before test literal text c.args.group.repeated c.if-group.false
     (begun_more before test literal c.args.text.now c.extend_from_slice.new.self text c.args.tested begun

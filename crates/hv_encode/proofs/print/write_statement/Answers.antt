@@ -6,7 +6,7 @@ use Rattle.hv_encode.proofs.print.write_statement.Goals as goal
 
 pub returns : goal.returns
 returns c =
-    let names = c.args.model.now in
+    let names = c.args.model.now.names in
     let groups = c.args.groups.now in
     let start = c.args.text.now in
     let end = c.write_call.new.text in

@@ -8,11 +8,11 @@ use Rattle.hv_encode.proofs.source.lines_of.Goals as goal
 
 pub returns-in_default-clause-none : goal.returns-in_default-clause-none
 returns-in_default-clause-none c = λ body is.
-    c.in_default.ensures.none (map spelled body ++ closing) (small_cut c.args.model.now c.args.source.now body is)
+    c.in_default.ensures.none (map spelled body ++ closing) (small_cut c.args.model.now.names c.args.source.now body is)
 
 pub returns-then-not-branch-clause-none : goal.returns-then-not-branch-clause-none
 returns-then-not-branch-clause-none c =
-    let names = c.args.model.now in
+    let names = c.args.model.now.names in
     let rest = c.in-Some.rest.now in
     let known = some_at c.in_ok-lines.field-0 c.in-Some-2.lines (λ lines. All (IsKnown names) lines.items) c.in-Some-2.is c.in_ok-lines.ensures.known in
     let cut = some_at c.in_ok-lines.field-0 c.in-Some-2.lines (λ lines. IsCutInto rest (map spelled (map (plain names) lines.items) ++ closing)) c.in-Some-2.is c.in_ok-lines.ensures.some in
@@ -21,7 +21,7 @@ returns-then-not-branch-clause-none c =
 
 pub returns-clause-some : goal.returns-clause-some
 returns-clause-some c =
-    let names = c.args.model.now in
+    let names = c.args.model.now.names in
     let rest = c.in-Some.rest.now in
     let lines = c.in-Some-2.lines.items in
     let known = some_at c.in_ok-lines.field-0 c.in-Some-2.lines (λ lines. All (IsKnown names) lines.items) c.in-Some-2.is c.in_ok-lines.ensures.known in

@@ -1,5 +1,5 @@
 use Rattle.std.proofs.Common.{◌≡◌, length}
-use Rattle.hv_plain.specs.Bytes.{without_front_blanks}
+use Rattle.hv_model.specs.Bytes.{without_front_blanks}
 use Rattle.hv_encode.proofs.trim.without_front_blanks.Given as goal
 
 abbrev pub invariant-loop-rest : goal.invariant-loop-rest

@@ -1,4 +1,4 @@
-use Rattle.std.proofs.Common.{ap, ◌≡◌, List, ℕ, [], ◌∷◌}
+use Rattle.std.proofs.Common.{ap, refl, ◌≡◌, List, ℕ, [], ◌∷◌}
 use Rattle.std.proofs.lemmas.Result.{err_from_is_err_and}
 use Rattle.hv_model.specs.Bytes.{lines_of, without_return}
 use Rattle.hv_model.specs.Lines.{Reading, Reads, Says, model, fault}
@@ -7,7 +7,7 @@ use Rattle.hv_model.specs.Model.{IsRefusalIn}
 use Rattle.hv_model.specs.Rule.{Features}
 use Rattle.hv_model.specs.declared.faults.ModelRefusal.{ModelRefusal}
 use Rattle.hv_model.proofs.OneReading.{says_one}
-use Rattle.hv_model.proofs.ReadModel.{refusal_map, valid_given, none_given, reads_end, reads_none}
+use Rattle.hv_model.proofs.ReadModel.{refusal_map, reads_end, reads_none, reads_valid}
 use Rattle.hv_model.proofs.model.read_model.Goals as goal
 
 refused_line : (bytes rest more line cut : List ℕ) (m : Features) (n : ℕ) (refusal : ModelRefusal) → ((o : Reading) → Reads m n (lines_of rest) o → Says bytes o)
@@ -24,25 +24,28 @@ returns-in_err-add_line-clause-refused c =
 ended : (rest : List ℕ) → rest ≡ [] → lines_of rest ≡ []
 ended rest e = ap lines_of e
 
-pub returns-in-Ok-true-clause-accepted : goal.returns-in-Ok-true-clause-accepted
-returns-in-Ok-true-clause-accepted c =
+pub returns-in-Ok-Some-clause-accepted : goal.returns-in-Ok-Some-clause-accepted
+returns-in-Ok-Some-clause-accepted c =
     c.loop-line.invariant.0 (model c.loop-line.model)
-    (reads_end c.loop-line.model c.loop-line.number (lines_of c.loop-line.rest.now) (ended c.loop-line.rest.now c.in_default.ensures.none) (valid_given c.loop-line.model c.in-Ok-true.field-0 c.in-Ok-true.field-0-test c.in-Ok-true.ensures))
+    (reads_end c.loop-line.model c.loop-line.number (lines_of c.loop-line.rest.now) (ended c.loop-line.rest.now c.in_default.ensures.none) (c.in-Ok-Some.field-0-0.on, (rw c.in-Ok-Some.field-0-is at c.in-Ok-Some.ensures.least).valid))
 
-pub returns-in-Ok-false-clause-refused : goal.returns-in-Ok-false-clause-refused
-returns-in-Ok-false-clause-refused c =
+pub returns-in-Ok-Some-clause-configuration : goal.returns-in-Ok-Some-clause-configuration
+returns-in-Ok-Some-clause-configuration c = reads_valid refl (returns-in-Ok-Some-clause-accepted c)
+
+pub returns-in-Ok-None-clause-refused : goal.returns-in-Ok-None-clause-refused
+returns-in-Ok-None-clause-refused c =
     rw c.bad.ensures
     (c.loop-line.invariant.0 (fault 0 NoConfiguration)
-    (reads_none c.loop-line.model c.loop-line.number (lines_of c.loop-line.rest.now) (ended c.loop-line.rest.now c.in_default.ensures.none) (none_given c.loop-line.model c.in-Ok-false.field-0 c.in-Ok-false.field-0-test c.in-Ok-false.ensures)))
+    (reads_none c.loop-line.model c.loop-line.number (lines_of c.loop-line.rest.now) (ended c.loop-line.rest.now c.in_default.ensures.none) (rw c.in-Ok-None.field-0-is at c.in-Ok-None.ensures.none)))
 
 pub returns-in_err-add_line-clause-one_reading : goal.returns-in_err-add_line-clause-one_reading
 returns-in_err-add_line-clause-one_reading c = says_one c.args.bytes.now
 
-pub returns-in-Ok-true-clause-one_reading : goal.returns-in-Ok-true-clause-one_reading
-returns-in-Ok-true-clause-one_reading c = says_one c.args.bytes.now
+pub returns-in-Ok-Some-clause-one_reading : goal.returns-in-Ok-Some-clause-one_reading
+returns-in-Ok-Some-clause-one_reading c = says_one c.args.bytes.now
 
-pub returns-in-Ok-false-clause-one_reading : goal.returns-in-Ok-false-clause-one_reading
-returns-in-Ok-false-clause-one_reading c = says_one c.args.bytes.now
+pub returns-in-Ok-None-clause-one_reading : goal.returns-in-Ok-None-clause-one_reading
+returns-in-Ok-None-clause-one_reading c = says_one c.args.bytes.now
 
 pub returns-in-Err-clause-one_reading : goal.returns-in-Err-clause-one_reading
 returns-in-Err-clause-one_reading c = says_one c.args.bytes.now

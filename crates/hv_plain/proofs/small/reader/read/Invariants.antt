@@ -7,6 +7,6 @@ use Rattle.hv_plain.proofs.small.reader.read.Given as goal
 -- what is left of the tokens has the answer of them all
 abbrev pub invariant-loop-token : goal.invariant-loop-token
 invariant-loop-token l = record {
-  each_option : length l.known.items ≡ length l.model;
-  same_answer : run_from l.model l.config.on (wanted_of l.due) l.known.items l.output (drop (length l.yielded) (slice_split is_gap l.text)) ≡ answer l.model l.config.on l.text;
+  each_option : length l.known.items ≡ length l.model.names;
+  same_answer : run_from l.model.names l.config.on (wanted_of l.due) l.known.items l.output (drop (length l.yielded) (slice_split is_gap l.text)) ≡ answer l.model.names l.config.on l.text;
 }
