@@ -5,6 +5,7 @@ pub mod Finding
 mod Lists
 mod Messages
 mod NestedLines
+mod Popped
 mod Presences
 mod Printed
 mod Product

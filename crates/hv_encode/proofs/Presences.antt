@@ -1,29 +1,29 @@
 -- Presence conditions and the values of options.
-use Rattle.std.proofs.Common.{◌≡◌, ℕ, zero, suc, ◌<◌, ◌≤◌, Bool, true, false, not, ◌&&◌, ◌||◌, ◌+◌, List, [], ◌∷◌, ◌++◌, length, take, drop, get_or, drop-cons, reverse, cond, refl, sym, ◌∙◌, ap, arith, IsTrue, ◌⊎◌, inl, inr}
-use Rattle.std.specs.Prelude.{Result, Ok, Err, OnOk, MatchBool, ◌↔◌}
+use Rattle.std.proofs.Common.{◌≡◌, ℕ, zero, suc, ◌<◌, ◌≤◌, Bool, true, false, not, ◌&&◌, ◌||◌, ◌+◌, List, [], ◌∷◌, ◌++◌, length, drop, get_or, drop-cons, reverse, cond, refl, sym, ◌∙◌, ap, arith, IsTrue, ◌⊎◌, inl, inr}
+use Rattle.std.specs.Prelude.{Result, Ok, Err, OnOk, ◌↔◌}
 use Rattle.std.specs.List.{All, AllByRecursion, flat_map, list_all, list_any}
 use Rattle.std.specs.Str.{bytes_eq}
-use Rattle.std.proofs.lemmas.List.{append-nil, append_assoc, drop_all, take_all}
+use Rattle.std.proofs.lemmas.List.{append-nil, append_assoc, drop_all}
 use Rattle.std.proofs.lemmas.Grind.{flat_map-append}
 use Rattle.std.proofs.lemmas.List.Elements.{All-nil, recursion_from_All}
-use Rattle.std.proofs.lemmas.List.Folds.{list_all-map, list_all_more}
+use Rattle.std.proofs.lemmas.List.Folds.{list_all-map}
 use Rattle.std.proofs.lemmas.Slice.Eq.{bytes_eq-Decides}
 use Rattle.hv_cond.specs.Diagram.{Diagram, IsNever, IsNode, Keeps, holds, value_of}
-use Rattle.hv_cond.specs.Laws.{Keeps-refl, Keeps-trans}
+use Rattle.hv_cond.specs.Laws.{Keeps-trans}
 use Rattle.hv_cond.specs.declared.conditions.Cond.{Cond}
 use Rattle.hv_model.specs.Name.{are_distinct}
-use Rattle.hv_model.specs.Rule.{Features, IsValid}
+use Rattle.hv_model.specs.Rule.{Features, meets_all}
 use Rattle.hv_plain.specs.Config.{is_on}
 use Rattle.hv_plain.specs.Program.{Statement, shown, statement_tokens}
-use Rattle.hv_plain.specs.Run.{IsReached, IsRunIn, literal_holds, start}
+use Rattle.hv_plain.specs.Run.{literal_holds, start}
 use Rattle.hv_encode.specs.declared.lift.Group.{Group}
 use Rattle.hv_encode.specs.declared.presence.Presence.{Presence}
 use Rattle.hv_encode.specs.Lines.{name_at}
 use Rattle.hv_encode.specs.declared.line.Line.{Line}
 use Rattle.hv_encode.specs.declared.line.Line.TheVariants.{Put, IfDefined, IfNotDefined, Else, EndIf}
 use Rattle.hv_encode.specs.Lift.{HasOption, after, lifted, statement_of, test_in}
-use Rattle.hv_encode.specs.Presence.{IsMarked, IsPresenceOf, IsWritten, Prunes, none, keep, leave, group_reads}
-use Rattle.hv_encode.proofs.Lists.{and_assoc, and_parts, and_true, list_all-reverse}
+use Rattle.hv_encode.specs.Presence.{AreCondsOf, IsCondOf, IsMarked, IsPresenceOf, IsReachedIn, IsWritten, Prunes, none, keep, leave, group_reads}
+use Rattle.hv_encode.proofs.Lists.{and_parts, and_true, list_all-reverse}
 use Rattle.hv_encode.proofs.Printed.{shown-append}
 use Rattle.hv_encode.proofs.Pruning.{Prunes-append}
 use Rattle.hv_encode.proofs.Semantics.{test_reads, group_reads as named_reads}
@@ -67,72 +67,38 @@ module _ (names : List (List ℕ)) (distinct : are_distinct names ≡ true) (val
   all_read-by_number (group ∷ groups) options = rw (is_on-at names values group.option distinct options.0, all_read-by_number groups options.1) refl
 
   -- the test of a statement holds where its groups are read
-  test_runs : (groups : List Group) → IsMarked (reverse groups) → All (HasOption names) groups → list_all (literal_holds (start names values)) (test_in names (reverse groups)) ≡ list_all (group_reads values) groups
+  test_runs : (groups : List Group) → IsMarked (reverse groups) → All (HasOption names) groups → list_all (literal_holds (start names values)) (test_in names (reverse groups)) ≡ list_all (group_reads values) (reverse groups)
   test_runs groups marked options =
       test_reads names values (reverse groups) marked
       ∙ list_all-map (λ read. read) (named_reads names values) (reverse groups)
       ∙ list_all-reverse (named_reads names values) groups
       ∙ all_read-by_number groups (recursion_from_All (HasOption names) groups options)
-
--- a statement of groups that a valid configuration reads is run there
-reached_put : (model : Features) (presence : Presence) → IsPresenceOf model presence → (groups : List Group) → IsMarked (reverse groups) → All (HasOption model.names) groups → (byte : ℕ)
-    → ((values : List Bool) × (length values ≡ presence.store.variables) × (holds presence.store presence.valid values ≡ true) × (list_all (group_reads values) groups ≡ true))
-    → IsReached model (record { test = test_in model.names (reverse groups); byte = byte })
-reached_put model presence is groups marked options byte found = record {
-  values = found.0;
-  valid = (found.1 ∙ is.variables, sym (is.meaning found.0) ∙ found.2);
-  runs = test_runs model.names is.distinct found.0 groups marked options ∙ found.3;
-}
+      ∙ sym (list_all-reverse (group_reads values) groups)
 
 contrary : (b : Bool) → b ≡ true → b ≡ false → ⊥
 contrary b e f = cc
 
--- and one of groups that none reads is run in none
-never_put : (model : Features) (presence : Presence) → IsPresenceOf model presence → (groups : List Group) → IsMarked (reverse groups) → All (HasOption model.names) groups → (byte : ℕ)
-    → ((values : List Bool) → length values ≡ presence.store.variables → holds presence.store presence.valid values ≡ true → list_all (group_reads values) groups ≡ false)
-    → (values : List Bool) → IsValid model values → IsRunIn model.names values (record { test = test_in model.names (reverse groups); byte = byte }) → ⊥
-never_put model presence is groups marked options byte unread values valid runs =
-    contrary (list_all (group_reads values) groups) (sym (test_runs model.names is.distinct values groups marked options) ∙ runs)
-    (unread values (valid.0 ∙ sym is.variables) (is.meaning values ∙ valid.1))
+-- a statement of groups that a valid configuration reads is run there, and one of groups that none reads in none
+put_pruned : (model : Features) → are_distinct model.names ≡ true → (groups : List Group) → IsMarked (reverse groups) → All (HasOption model.names) groups → (byte : ℕ) (reached : Bool) → IsReachedIn model (reverse groups) reached
+    → Prunes model (record { test = test_in model.names (reverse groups); byte = byte } ∷ []) (cond reached (record { test = test_in model.names (reverse groups); byte = byte } ∷ []) [])
+put_pruned model distinct groups marked options byte true found =
+    keep _ (record { values = found.0; valid = found.1; runs = test_runs model.names distinct found.0 groups marked options ∙ found.2 }) none
+put_pruned model distinct groups marked options byte false unread =
+    leave _ (λ values valid runs. contrary (list_all (group_reads values) (reverse groups)) (sym (test_runs model.names distinct values groups marked options) ∙ runs) (unread values valid)) none
 
-abbrev pub IsReachedBy : Presence → List Group → Bool → Type 0
-IsReachedBy presence groups reached = MatchBool reached
-    ((values : List Bool) × (length values ≡ presence.store.variables) × (holds presence.store presence.valid values ≡ true) × (list_all (group_reads values) groups ≡ true))
-    ((values : List Bool) → length values ≡ presence.store.variables → holds presence.store presence.valid values ≡ true → list_all (group_reads values) groups ≡ false)
-
-pub put_written : {T E : Type 0} (result : Result T E) (model : Features) (presence : Presence) (groups : List Group) (byte : ℕ) (reached : Bool) (before now : List ℕ)
-    → IsPresenceOf model presence → IsMarked (reverse groups) → All (HasOption model.names) groups → reached ≡ true → IsReachedBy presence groups reached
+pub put_written : {T E : Type 0} (result : Result T E) (model : Features) → are_distinct model.names ≡ true → (groups : List Group) (byte : ℕ) (reached : Bool) (before now : List ℕ)
+    → IsMarked (reverse groups) → All (HasOption model.names) groups → reached ≡ true → IsReachedIn model (reverse groups) reached
     → OnOk result (now ≡ before ++ shown (flat_map statement_tokens (record { test = test_in model.names (reverse groups); byte = byte } ∷ [])))
     → OnOk result (IsWritten model (record { test = test_in model.names (reverse groups); byte = byte } ∷ []) before now)
-put_written (Err e) model presence groups byte reached before now is marked options held found written = tt
-put_written (Ok v) model presence groups byte reached before now is marked options held found written =
-    let statement : Statement = record { test = test_in model.names (reverse groups); byte = byte } in
-    record { kept = statement ∷ []; pruned = keep statement (reached_put model presence is groups marked options byte (rw held at found)) none; written = written }
+put_written (Err e) model distinct groups byte reached before now marked options held found written = tt
+put_written (Ok v) model distinct groups byte reached before now marked options held found written =
+    record { kept = _; pruned = put_pruned model distinct groups marked options byte true (rw held at found); written = written }
 
-pub put_left_out : (model : Features) (presence : Presence) (groups : List Group) (byte : ℕ) (reached : Bool) (before now : List ℕ)
-    → IsPresenceOf model presence → IsMarked (reverse groups) → All (HasOption model.names) groups → reached ≡ false → IsReachedBy presence groups reached → now ≡ before
+pub put_left_out : (model : Features) → are_distinct model.names ≡ true → (groups : List Group) (byte : ℕ) (reached : Bool) (before now : List ℕ)
+    → IsMarked (reverse groups) → All (HasOption model.names) groups → reached ≡ false → IsReachedIn model (reverse groups) reached → now ≡ before
     → IsWritten model (record { test = test_in model.names (reverse groups); byte = byte } ∷ []) before now
-put_left_out model presence groups byte reached before now is marked options unheld found same =
-    let statement : Statement = record { test = test_in model.names (reverse groups); byte = byte } in
-    record {
-      kept = [];
-      pruned = leave statement (never_put model presence is groups marked options byte (rw unheld at found)) none;
-      written = same ∙ sym (append-nil before);
-    }
-
--- diagrams that keep what they had are still those of the model
-pub presence_kept : (model : Features) (old new : Presence) → IsPresenceOf model old → Keeps old.store new.store → new.valid ≡ old.valid → IsPresenceOf model new
-presence_kept model old new is keeps same = record {
-  variables = keeps.variables ∙ is.variables;
-  few = is.few;
-  distinct = is.distinct;
-  node = rw same (keeps.stays old.valid is.node);
-  meaning = λ values. ap (λ c. holds new.store c values) same ∙ keeps.meaning old.valid is.node values ∙ is.meaning values;
-}
-
--- each group's option is a variable
-pub options-variables : (model : Features) (presence : Presence) (groups : List Group) → IsPresenceOf model presence → All (HasOption model.names) groups → All (λ group. group.option < presence.store.variables) groups
-options-variables model presence groups is options = rw is.variables options
+put_left_out model distinct groups byte reached before now marked options unheld found same =
+    record { kept = []; pruned = put_pruned model distinct groups marked options byte false (rw unheld at found); written = same ∙ sym (append-nil before) }
 
 -- the flags are right behind each line
 pub IsMarked-after : (line : Line) (groups : List Group) → IsMarked groups → IsMarked (after line groups)
@@ -144,43 +110,65 @@ IsMarked-after Else (group ∷ groups) marked = (refl, marked.1)
 IsMarked-after EndIf [] marked = tt
 IsMarked-after EndIf (group ∷ groups) marked = marked.1
 
--- the condition of the first groups
-pub record IsGathered (old now : Diagram) (valid cond : Cond) (groups : List Group) (i : ℕ) : Type 0 where
-  pub keeps : Keeps old now
-  pub node : IsNode now cond
-  pub meaning : (values : List Bool) → holds now cond values ≡ (holds old valid values && list_all (group_reads values) (take i groups))
+cond_kept : (old now : Diagram) (model : Features) (groups : List Group) (c : Cond) → Keeps old now → IsCondOf old model groups c → IsCondOf now model groups c
+cond_kept old now model groups c keeps is = record { node = keeps.stays c is.node; meaning = λ values. keeps.meaning c is.node values ∙ is.meaning values }
 
-pub gathered_none : (store : Diagram) (valid : Cond) (groups : List Group) → IsNode store valid → IsGathered store store valid valid groups 0
-gathered_none store valid groups n = record { keeps = Keeps-refl store; node = n; meaning = λ values. sym (and_true (holds store valid values)) }
+-- conditions in a store that keeps them
+conds_kept : (old now : Diagram) (model : Features) (groups : List Group) (conds : List Cond) → Keeps old now → AreCondsOf old model groups conds → AreCondsOf now model groups conds
+conds_kept old now model [] [] keeps h = h
+conds_kept old now model (group ∷ groups) [] keeps h = h
+conds_kept old now model [] (c ∷ []) keeps h = cond_kept old now model [] c keeps h
+conds_kept old now model [] (c ∷ d ∷ conds) keeps h = h
+conds_kept old now model (group ∷ groups) (c ∷ conds) keeps h = (cond_kept old now model (group ∷ groups) c keeps h.0, conds_kept old now model groups conds keeps h.1)
 
-pub gathered_next : (old mid one now : Diagram) (valid cond read both : Cond) (groups : List Group) (i : ℕ) (group : Group) → IsGathered old mid valid cond groups i → i < length groups → group ≡ get_or groups i group
-    → Keeps mid one → ((values : List Bool) → holds one read values ≡ group_reads values group)
-    → Keeps one now → IsNode now both → ((values : List Bool) → holds now both values ≡ (holds one cond values && holds one read values))
-    → IsGathered old now valid both groups (i + 1)
-gathered_next old mid one now valid cond read both groups i group g within is k1 e k2 n f =
-    record {
-      keeps = Keeps-trans g.keeps (Keeps-trans k1 k2);
+-- the first of the conditions is that within all of the groups
+pub first_cond : (store : Diagram) (model : Features) (groups : List Group) (c : Cond) (conds : List Cond) → AreCondsOf store model groups (c ∷ conds) → IsCondOf store model groups c
+first_cond store model [] c [] h = h
+first_cond store model [] c (d ∷ conds) h = absurd h
+first_cond store model (group ∷ groups) c conds h = h.0
+
+and_inner : (a b c x : Bool) → x ≡ ((a && b) && c) → x ≡ (a && (c && b))
+and_inner true true true x e = e
+and_inner true true false x e = e
+and_inner true false true x e = e
+and_inner true false false x e = e
+and_inner false b c x e = e
+
+pub entered : (model : Features) (group : Group) (groups : List Group) (old now : Presence) (mid : Diagram) (read : Cond) → IsPresenceOf model groups old
+    → Keeps old.store mid → ((values : List Bool) → holds mid read values ≡ group_reads values group) → Keeps mid now.store → IsNode now.store now.cond
+    → ((values : List Bool) → holds now.store now.cond values ≡ (holds mid old.cond values && holds mid read values)) → reverse now.outside.items ≡ old.cond ∷ reverse old.outside.items
+    → IsPresenceOf model (group ∷ groups) now
+entered model group groups old now mid read is first e second n f pushed =
+    let outer = first_cond old.store model groups old.cond (reverse old.outside.items) is.conds in
+    let here : IsCondOf now.store model (group ∷ groups) now.cond = record {
       node = n;
-      meaning = λ values.
-          f values
-          ∙ (ap (λ (b : Bool). b && holds one read values) (k1.meaning cond g.node values ∙ g.meaning values)
-          ∙ (ap (λ (b : Bool). (holds old valid values && list_all (group_reads values) (take i groups)) && b) (e values ∙ ap (group_reads values) is)
-          ∙ (and_assoc (holds old valid values) (list_all (group_reads values) (take i groups)) (group_reads values (get_or groups i group))
-          ∙ ap (λ (b : Bool). holds old valid values && b) (sym (list_all_more (group_reads values) groups i group within)))));
+      meaning = λ values. and_inner (meets_all values model.rules) (list_all (group_reads values) groups) (group_reads values group) _
+          (f values ∙ ap (λ (b : Bool). b && holds mid read values) (first.meaning old.cond outer.node values ∙ outer.meaning values)
+          ∙ ap (λ (b : Bool). (meets_all values model.rules && list_all (group_reads values) groups) && b) (e values));
+    } in
+    record {
+      variables = second.variables ∙ (first.variables ∙ is.variables);
+      few = is.few;
+      distinct = is.distinct;
+      conds = rw pushed (here, conds_kept old.store now.store model groups (old.cond ∷ reverse old.outside.items) (Keeps-trans first second) is.conds);
     }
 
-pub gathered_all : (old now : Diagram) (valid cond : Cond) (groups : List Group) (i : ℕ) → IsGathered old now valid cond groups i → length groups ≤ i
-    → (values : List Bool) → holds now cond values ≡ (holds old valid values && list_all (group_reads values) groups)
-gathered_all old now valid cond groups i g h = λ values. g.meaning values ∙ ap (λ gs. holds old valid values && list_all (group_reads values) gs) (take_all i groups h)
+pub left : (model : Features) (group : Group) (groups : List Group) (old now : Presence) → IsPresenceOf model (group ∷ groups) old → now.store ≡ old.store → reverse old.outside.items ≡ now.cond ∷ reverse now.outside.items → IsPresenceOf model groups now
+left model group groups old now is same popped = record {
+  variables = ap (λ (d : Diagram). d.variables) same ∙ is.variables;
+  few = is.few;
+  distinct = is.distinct;
+  conds = rw same ((rw popped at is.conds).1);
+}
 
-option_at : (groups : List Group) (i : ℕ) (n : ℕ) (group : Group) → All (λ g. g.option < n) groups → i < length groups → group ≡ get_or groups i group → group.option < n
-option_at groups i n group all within is = rw is (all i group within)
+pub never_left : (model : Features) (group : Group) (groups : List Group) (old : Presence) → IsPresenceOf model (group ∷ groups) old → reverse old.outside.items ≡ [] → ⊥
+never_left model group groups old is empty = (rw empty at is.conds).1
 
--- what the falsity of the gathered condition tells
-pub never_read : (old now : Diagram) (valid cond : Cond) (groups : List Group) → Keeps old now → ((values : List Bool) → holds now cond values ≡ (holds old valid values && list_all (group_reads values) groups))
-    → IsNever now cond → (values : List Bool) → length values ≡ old.variables → holds old valid values ≡ true → list_all (group_reads values) groups ≡ false
-never_read old now valid cond groups keeps meaning never values len here =
-    sym (ap (λ (b : Bool). b && list_all (group_reads values) groups) here) ∙ sym (meaning values) ∙ never values (len ∙ sym keeps.variables)
+pub started : (model : Features) (presence : Presence) → presence.store.variables ≡ length model.names → length model.names ≤ 256 → are_distinct model.names ≡ true → IsNode presence.store presence.cond
+    → ((values : List Bool) → holds presence.store presence.cond values ≡ meets_all values model.rules) → presence.outside.items ≡ [] → IsPresenceOf model [] presence
+started model presence v few distinct n e none_open =
+    let here : IsCondOf presence.store model [] presence.cond = record { node = n; meaning = λ values. e values ∙ sym (and_true (meets_all values model.rules)) } in
+    record { variables = v; few = few; distinct = distinct; conds = rw none_open here }
 
 at_none : (p : List Bool → Bool) (b : Bool) → p [] ≡ b → ((values : List Bool) × (length values ≡ 0) × (p values ≡ true)) ⊎ ((values : List Bool) → length values ≡ 0 → p values ≡ false)
 at_none p true e = inl ([], refl, e)
@@ -206,16 +194,20 @@ some_or_none (suc n) p = elim (some_or_none n (λ values. p (true ∷ values))) 
     neither (true ∷ values) len on off = on values (omega (arith, len))
     neither (false ∷ values) len on off = off values (omega (arith, len))
 
--- what the test of the gathered condition tells
-pub reached_by : (old : Presence) (now : Diagram) (cond : Cond) (groups : List Group) (never : Bool) → Keeps old.store now → ((values : List Bool) → holds now cond values ≡ (holds old.store old.valid values && list_all (group_reads values) groups))
-    → (IsTrue never ↔ IsNever now cond) → IsReachedBy old groups (not never)
-reached_by old now cond groups true keeps meaning told = never_read old.store now old.valid cond groups keeps meaning (told.0 refl)
-reached_by old now cond groups false keeps meaning told = elim (some_or_none now.variables (holds now cond)) [
-  | inl found ↦
-      let parts = and_parts (holds old.store old.valid found.0) (list_all (group_reads found.0) groups) (sym (meaning found.0) ∙ found.2) in
-      (found.0, found.1 ∙ keeps.variables, parts.0, parts.1)
-  | inr none_holds ↦ absurd (let yes = told.1 none_holds in cc)
-]
+-- what the test of the condition tells
+pub reached_in : (model : Features) (groups : List Group) (presence : Presence) (never : Bool) → (IsTrue never ↔ IsNever presence.store presence.cond) → IsPresenceOf model groups presence → IsReachedIn model groups (not never)
+reached_in model groups presence true told is =
+    let here = first_cond presence.store model groups presence.cond (reverse presence.outside.items) is.conds in
+    λ values valid.
+    sym (ap (λ (b : Bool). b && list_all (group_reads values) groups) valid.1) ∙ sym (here.meaning values) ∙ told.0 refl values (valid.0 ∙ sym is.variables)
+reached_in model groups presence false told is =
+    let here = first_cond presence.store model groups presence.cond (reverse presence.outside.items) is.conds in
+    elim (some_or_none presence.store.variables (holds presence.store presence.cond)) [
+      | inl found ↦
+          let parts = and_parts (meets_all found.0 model.rules) (list_all (group_reads found.0) groups) (sym (here.meaning found.0) ∙ found.2) in
+          (found.0, (found.1 ∙ is.variables, parts.0), parts.1)
+      | inr none_holds ↦ absurd (let yes = told.1 none_holds in cc)
+    ]
 
 -- nothing was written of no statements
 pub nothing_written : (model : Features) (text : List ℕ) → IsWritten model [] text text
@@ -225,12 +217,12 @@ nothing_written model text = record { kept = []; pruned = none; written = sym (a
 pub record IsAt (model : Features) (lines : List Line) (before : List ℕ) (i : ℕ) (groups : List Group) (presence : Presence) (now : List ℕ) : Type 0 where
   pub options : All (HasOption model.names) groups
   pub marked : IsMarked (reverse groups)
-  pub sound : IsPresenceOf model presence
+  pub sound : IsPresenceOf model (reverse groups) presence
   pub so_far : List Statement
   pub rest : (more : List Statement) → Prunes model (lifted model.names (reverse groups) (drop i lines)) more → Prunes model (lifted model.names [] lines) (so_far ++ more)
   pub written : now ≡ before ++ shown (flat_map statement_tokens so_far)
 
-pub IsAt-start : (model : Features) (lines : List Line) (before : List ℕ) (groups : List Group) (presence : Presence) → groups ≡ [] → IsPresenceOf model presence → IsAt model lines before 0 groups presence before
+pub IsAt-start : (model : Features) (lines : List Line) (before : List ℕ) (groups : List Group) (presence : Presence) → groups ≡ [] → IsPresenceOf model [] presence → IsAt model lines before 0 groups presence before
 IsAt-start model lines before groups presence e is = rw e (record {
   options = All-nil (HasOption model.names);
   marked = tt;
@@ -244,7 +236,7 @@ suc-is : (i : ℕ) → suc i ≡ i + 1
 suc-is i = omega arith
 
 pub IsAt-next : (model : Features) (lines : List Line) (before : List ℕ) (i : ℕ) (groups groups_now : List Group) (presence presence_now : Presence) (d : Line) (mid now : List ℕ)
-    → IsAt model lines before i groups presence mid → i < length lines → IsPresenceOf model presence_now
+    → IsAt model lines before i groups presence mid → i < length lines → IsPresenceOf model (reverse groups_now) presence_now
     → IsWritten model (statement_of model.names (reverse groups) (get_or lines i d)) mid now → reverse groups_now ≡ after (get_or lines i d) (reverse groups) → All (HasOption model.names) groups_now
     → IsAt model lines before (i + 1) groups_now presence_now now
 IsAt-next model lines before i groups groups_now presence presence_now d mid now at within present wrote passed options = record {

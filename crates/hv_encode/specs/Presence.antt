@@ -1,7 +1,8 @@
 -- Under which configurations groups are read, and which statements a metaproduct has.
-use Rattle.std.specs.Prelude.{ℕ, ◌≡◌, ◌≤◌, Bool, cond, not, List, [], ◌∷◌, ◌++◌, length, IsTrue}
-use Rattle.std.specs.List.{flat_map, list_any}
-use Rattle.hv_cond.specs.Diagram.{IsNode, holds, value_of}
+use Rattle.std.specs.Prelude.{ℕ, ◌≡◌, ◌≤◌, Bool, false, cond, not, ◌&&◌, List, [], ◌∷◌, ◌++◌, length, reverse, IsTrue, MatchBool}
+use Rattle.std.specs.List.{flat_map, list_all, list_any}
+use Rattle.hv_cond.specs.Diagram.{Diagram, IsNode, holds, value_of}
+use Rattle.hv_cond.specs.declared.conditions.Cond.{Cond}
 use Rattle.hv_model.specs.Name.{are_distinct}
 use Rattle.hv_model.specs.Rule.{Features, IsValid, meets_all}
 use Rattle.hv_plain.specs.Program.{Statement, Program, IsProgramText, program_tokens, shown, statement_tokens}
@@ -20,13 +21,31 @@ abbrev pub IsMarked : List Group → Type 0
 IsMarked [] = Unit {0}
 IsMarked (group ∷ groups) = (group.repeated ≡ list_any (has_literal group.option group.negated) groups) × IsMarked groups
 
--- the diagrams have a variable for each option, and the condition holds exactly under the valid configurations
-pub record IsPresenceOf (model : Features) (presence : Presence) : Type 0 where
+-- the condition holds exactly under the valid configurations that read all of these groups
+pub record IsCondOf (store : Diagram) (model : Features) (groups : List Group) (c : Cond) : Type 0 where
+  pub node : IsNode store c
+  pub meaning : (values : List Bool) → holds store c values ≡ (meets_all values model.rules && list_all (group_reads values) groups)
+
+-- the conditions are those within the first of these groups, the innermost, within the second, and so on,
+-- and that outside all
+abbrev pub AreCondsOf : Diagram → Features → List Group → List Cond → Type 0
+AreCondsOf store model groups [] = ⊥
+AreCondsOf store model [] (c ∷ []) = IsCondOf store model [] c
+AreCondsOf store model [] (c ∷ _ ∷ _) = ⊥
+AreCondsOf store model (group ∷ groups) (c ∷ conds) = IsCondOf store model (group ∷ groups) c × AreCondsOf store model groups conds
+
+-- the presence conditions are those within these groups, the innermost first; there is a variable for each option
+pub record IsPresenceOf (model : Features) (groups : List Group) (presence : Presence) : Type 0 where
   pub variables : presence.store.variables ≡ length model.names
   pub few : length model.names ≤ 256
   pub distinct : IsTrue (are_distinct model.names)
-  pub node : IsNode presence.store presence.valid
-  pub meaning : (values : List Bool) → holds presence.store presence.valid values ≡ meets_all values model.rules
+  pub conds : AreCondsOf presence.store model groups (presence.cond ∷ reverse presence.outside.items)
+
+-- whether some valid configuration reads all of these groups
+abbrev pub IsReachedIn : Features → List Group → Bool → Type 0
+IsReachedIn model groups reached = MatchBool reached
+    ((values : List Bool) × IsValid model values × IsTrue (list_all (group_reads values) groups))
+    ((values : List Bool) → IsValid model values → list_all (group_reads values) groups ≡ false)
 
 -- the second list has those statements of the first that a valid configuration runs
 pub data Prunes (model : Features) : List Statement → List Statement → Type 0 where

@@ -1,8 +1,9 @@
-//! Presence conditions: under which configurations of a model a part of a source is there.
-ghost use Rattle.std.specs.Prelude.{◌≡◌, ◌≤◌, ◌<◌, ◌&&◌, Bool, List, true, false, length, IfOk, MatchBool};
-ghost use Rattle.std.specs.List.{All, list_all};
+//! Presence conditions: under which valid configurations the lines of a source are read.
+ghost use Rattle.std.specs.Prelude.{◌≡◌, ◌≤◌, ◌<◌, ◌∷◌, [], Bool, List, length, reverse, IfOk, OnOk};
 ghost use Rattle.hv_cond.specs.Diagram.{IsNode, Keeps, holds};
-ghost use Rattle.hv_encode.specs.Presence.{IsPresenceOf, group_reads};
+ghost use Rattle.hv_encode.specs.declared.lift.Group.{Group};
+ghost use Rattle.hv_encode.specs.Presence.{IsPresenceOf, IsReachedIn, group_reads};
+ghost use Rattle.hv_model.specs.Rule.{Features};
 
 use crate::lift::Group;
 use hv_base::Memory;
@@ -10,12 +11,13 @@ use hv_cond::{Cond, Store};
 use hv_model::{Model, valid_cond};
 use std::alloc::Global;
 
-/// The diagrams of a model, whose variables are its options.
+/// The condition under which a line is read in a valid configuration, and those of the groups around it.
 #[derive(Drop)]
 pub struct Presence {
     pub store: Store,
-    /// Holds exactly under the valid configurations.
-    pub valid: Cond,
+    pub cond: Cond,
+    /// What holds outside each open group, the outermost first.
+    pub outside: Vec<Cond>,
 }
 
 /// The condition that a group is read, outer groups aside.
@@ -34,48 +36,45 @@ fn group_cond(store: &mut Store, group: Group) -> Result<Cond, Memory>
     }
 }
 
-/// The condition that all of these groups are read where the first condition holds.
-fn presence_cond(store: &mut Store, valid: Cond, groups: &[Group]) -> Result<Cond, Memory>
-    requires node { IsNode store.old valid }
-    requires options { All (λ group. group.option < store.old.variables) groups.now }
-    requires few { store.old.variables ≤ 256 }
-    ensures keeps { Keeps store.old store.new }
-    ensures node { IfOk result (IsNode store.new) }
-    ensures meaning { IfOk result (λ c. (values : List Bool) →
-        holds store.new c values ≡ (holds store.old valid values && list_all (group_reads values) groups.now)) }
-{
-    let mut cond = valid;
-    for group in groups {
-        let read = group_cond(store, *group)?;
-        cond = store.and(cond, read)?;
-    }
-    Ok(cond)
-}
-
 impl Presence {
-    /// The presence conditions of a model.
+    /// Outside all groups each valid configuration reads a line.
     pub fn new(alloc: Global, model: &Model) -> Result<Presence, Memory>
-        ensures { IfOk result (IsPresenceOf model.now) }
+        ensures { IfOk result (IsPresenceOf model.now []) }
     {
         let mut store = Store::new(alloc, model.options() as u32)?;
-        let valid = valid_cond(model, &mut store)?;
-        Ok(Presence { store, valid })
+        let cond = valid_cond(model, &mut store)?;
+        Ok(Presence {
+            store,
+            cond,
+            outside: Vec::new(alloc),
+        })
     }
 
-    /// Whether a valid configuration reads all of these groups.
-    pub fn is_reached(&mut self, groups: &[Group]) -> Result<bool, Memory>
-        requires node { IsNode self.old.store self.old.valid }
-        requires options { All (λ group. group.option < self.old.store.variables) groups.now }
-        requires few { self.old.store.variables ≤ 256 }
-        ensures keeps { Keeps self.old.store self.new.store }
-        ensures valid { self.new.valid ≡ self.old.valid }
-        ensures reached { IfOk result (λ reached. MatchBool reached
-            ((values : List Bool) × (length values ≡ self.old.store.variables)
-            × (holds self.old.store self.old.valid values ≡ true) × (list_all (group_reads values) groups.now ≡ true))
-            ((values : List Bool) → length values ≡ self.old.store.variables
-            → holds self.old.store self.old.valid values ≡ true → list_all (group_reads values) groups.now ≡ false)) }
+    /// Goes into a group that opens.
+    pub fn enter(&mut self, group: Group) -> Result<(), Memory>
+        requires { (model : Features) × ((groups : List Group) × IsPresenceOf model groups self.old × (group.option < length model.names)) }
+        ensures { OnOk result ((model : Features) (groups : List Group) → IsPresenceOf model groups self.old → IsPresenceOf model (group ∷ groups) self.new) }
     {
-        let cond = presence_cond(&mut self.store, self.valid, groups)?;
-        Ok(!self.store.is_false(cond))
+        self.outside.push(self.cond)?;
+        let read = group_cond(&mut self.store, group)?;
+        self.cond = self.store.and(self.cond, read)?;
+        Ok(())
+    }
+
+    /// Leaves the innermost group.
+    pub fn leave(&mut self)
+        ensures { (model : Features) (group : Group) (groups : List Group) → IsPresenceOf model (group ∷ groups) self.old → IsPresenceOf model groups self.new }
+    {
+        if let Some(cond) = self.outside.pop() {
+            self.cond = cond;
+        }
+    }
+
+    /// Whether a valid configuration reads a line here.
+    pub fn is_reached(&self) -> bool
+        requires { IsNode self.now.store self.now.cond }
+        ensures { (model : Features) (groups : List Group) → IsPresenceOf model groups self.now → IsReachedIn model groups result }
+    {
+        !self.store.is_false(self.cond)
     }
 }

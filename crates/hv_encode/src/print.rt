@@ -88,17 +88,16 @@ fn write_statement(text: &mut Text, model: &Model, groups: &[Group], byte: u8) -
 fn write_put(
     text: &mut Text,
     model: &Model,
-    presence: &mut Presence,
+    presence: &Presence,
     groups: &[Group],
     byte: u8,
 ) -> Result<(), Memory>
-    requires presence { IsPresenceOf model.now presence.old }
+    requires presence { IsPresenceOf model.now (reverse groups.now) presence.now }
     requires options { All (HasOption model.now.names) groups.now }
     requires marked { IsMarked (reverse groups.now) }
-    ensures presence { IsPresenceOf model.now presence.new }
-    ensures written { OnOk result (IsWritten model.now (record { test = test_in model.now.names (reverse groups.now); byte = byte } ∷ []) text.old text.new) }
+    ensures { OnOk result (IsWritten model.now (record { test = test_in model.now.names (reverse groups.now); byte = byte } ∷ []) text.old text.new) }
 {
-    if !presence.is_reached(groups)? {
+    if !presence.is_reached() {
         return Ok(());
     }
     write_statement(text, model, groups, byte)
@@ -108,15 +107,14 @@ fn write_put(
 fn write_line(
     text: &mut Text,
     model: &Model,
-    presence: &mut Presence,
+    presence: &Presence,
     groups: &[Group],
     line: Line,
 ) -> Result<(), Memory>
-    requires presence { IsPresenceOf model.now presence.old }
+    requires presence { IsPresenceOf model.now (reverse groups.now) presence.now }
     requires options { All (HasOption model.now.names) groups.now }
     requires marked { IsMarked (reverse groups.now) }
-    ensures presence { IsPresenceOf model.now presence.new }
-    ensures written { OnOk result (IsWritten model.now (statement_of model.now.names (reverse groups.now) line) text.old text.new) }
+    ensures { OnOk result (IsWritten model.now (statement_of model.now.names (reverse groups.now) line) text.old text.new) }
 {
     match line {
         Line::Put(byte) => write_put(text, model, presence, groups, byte),
@@ -137,8 +135,8 @@ fn write_statements(
     let mut presence = Presence::new(alloc, model)?;
     let mut groups = Vec::new(alloc);
     for line in lines {
-        write_line(text, model, &mut presence, groups.as_slice(), *line)?;
-        pass(&mut groups, *line)?;
+        write_line(text, model, &presence, groups.as_slice(), *line)?;
+        pass(&mut groups, &mut presence, *line)?;
     }
     Ok(())
 }
