@@ -1,4 +1,5 @@
 mod AlternativeLemmas
 mod BeginningLemmas
 mod KeyLemmas
+mod PartLemmas
 mod TableLemmas

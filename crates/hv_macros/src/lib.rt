@@ -8,3 +8,6 @@ mod tables;
 pub use alternatives::Alternative;
 pub use hv_toks::{Body, Meaning};
 pub use tables::MacroTable;
+
+#[cfg(test)]
+mod tests;

@@ -1,7 +1,7 @@
 //! Macro tables under all configurations.
-ghost use Rattle.std.specs.Prelude.{◌≡◌, ◌&&◌, ◌∷◌, [], Bool, List, ℕ, if◌then◌else◌, IfOk, OnErr, OnOk};
+ghost use Rattle.std.specs.Prelude.{◌≡◌, ◌↔◌, ◌&&◌, ◌∷◌, [], AllPairs, Any, Bool, IsTrue, List, ℕ, if◌then◌else◌, IfOk, OnErr, OnOk};
 ghost use Rattle.std.specs.Str.{bytes_eq};
-ghost use Rattle.hv_cond.specs.Diagram.{IsNode, Keeps, holds};
+ghost use Rattle.hv_cond.specs.Diagram.{AreDisjoint, IsNode, Keeps, holds};
 ghost use Rattle.hv_macros.specs.Alternatives.{AllHold, AllNodes, meanings};
 ghost use Rattle.hv_macros.specs.Macro.{defined, macro_of, undefined};
 ghost use Rattle.hv_macros.specs.Table.{IsTableOf, kept, meaning_in};
@@ -117,6 +117,8 @@ impl MacroTable {
         ensures keeps { Keeps store.old store.new }
         ensures nodes { IfOk result (λ parts. AllNodes store.new parts) }
         ensures hold { IfOk result (λ parts. AllHold store.new parts) }
+        ensures disjoint { IfOk result (λ parts. AllPairs (λ one other. AreDisjoint store.new one.cond other.cond) parts) }
+        ensures together { IfOk result (λ parts. (values : List Bool) → IsTrue (holds store.old cond values) ↔ Any (λ part. IsTrue (holds store.new part.cond values)) parts) }
         ensures meanings { IfOk result (λ parts. (values : List Bool) → meanings store.new values parts
             ≡ (if holds store.old cond values then meaning_in store.old self.now values name.now ∷ [] else [])) }
     {
