@@ -4,6 +4,8 @@ mod Examples
 pub mod Gaps
 pub mod Kept
 pub mod Longest
+mod LongestExamples
+pub mod LongestTokens
 pub mod Only
 pub mod Parting
 pub mod Pieces

@@ -24,7 +24,7 @@ behind front fronts same extend (next tok gap rest before here more g len a b c 
     rw (← append_assoc front gap (tok.text ++ rest), ← append_assoc fronts before (here ++ more))
     (next tok (front ++ gap) rest (fronts ++ before) here more (extend gap g) both a b c p)
 
-same_take : (n : ℕ) (text places : List ℕ) → length text ≡ length places → length (take n text) ≡ length (take n places)
+pub same_take : (n : ℕ) (text places : List ℕ) → length text ≡ length places → length (take n text) ≡ length (take n places)
 same_take n text places same = simp length-take (rw same refl)
 
 gapped : (n : ℕ) (text places : List ℕ) (toks : List PpTok) → length text ≡ length places → ((gap : List ℕ) → IsGap gap → IsGap (take n text ++ gap))

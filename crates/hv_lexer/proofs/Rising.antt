@@ -74,7 +74,7 @@ of_view line byte bytes f m view_open e = cc
 of_view line byte bytes f m (view_block n a b) e = cc
 of_view line byte bytes f m view_token e = let p : token_at line (byte ∷ bytes) ≡ m = cc in rw p at (token_at-fits line byte bytes)
 
-token-fits : (line : Line) (text : List ℕ) (m : Match) → front line text ≡ Token m → (0 < m.len) × (m.len ≤ length text)
+pub token-fits : (line : Line) (text : List ℕ) (m : Match) → front line text ≡ Token m → (0 < m.len) × (m.len ≤ length text)
 token-fits line [] m e = absurd (cc)
 token-fits line (byte ∷ bytes) m e = of_view line byte bytes (front line (byte ∷ bytes)) m (view line byte bytes) e
 
@@ -86,7 +86,7 @@ taken-last n ps h =
     let e : length (take (suc n) ps) - 1 ≡ n = omega (arith, length-take-le (suc n) ps h) in
     rw e (get_or-take (suc n) ps n 0 (omega arith))
 
-taken-first : (n : ℕ) (ps : List ℕ) → get_or (take (suc n) ps) 0 0 ≡ get_or ps 0 0
+pub taken-first : (n : ℕ) (ps : List ℕ) → get_or (take (suc n) ps) 0 0 ≡ get_or ps 0 0
 taken-first n [] = refl
 taken-first n (p ∷ ps) = refl
 

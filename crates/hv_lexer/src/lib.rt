@@ -2,7 +2,7 @@
 #![tactic(auto)]
 
 ghost use Rattle.std.specs.Prelude.{◌≡◌, IfOk, IfErr, length};
-ghost use Rattle.hv_lexer.specs.Laws.{IsParted, Rise};
+ghost use Rattle.hv_lexer.specs.Laws.{AreLongest, IsParted, Rise};
 ghost use Rattle.hv_lexer.specs.Printed.{ArePrintable, Piece, Restores, spaced};
 ghost use Rattle.hv_lexer.specs.Refusal.{IsRefusalOf, Tells};
 ghost use Rattle.hv_toks.specs.Cutting.{Cutting, IsCut, tokens};
@@ -27,6 +27,8 @@ pub fn lex(alloc: Global, file: u32, bytes: &[u8]) -> Result<List<PpTok>, LexRef
     ensures refused { IfErr result (IsRefusalOf (IsCut file bytes.now)) }
     ensures rising { IfOk result (λ list. Rise file 0 (length bytes.now) list) }
     ensures parted { IfOk result (λ list. IsParted list bytes.now) }
+    // each token is the longest that starts at its place
+    ensures longest { IfOk result (λ list. AreLongest list bytes.now) }
     ensures total { (cutting : Cutting) × IsCut file bytes.now cutting }
     ensures only { (cutting : Cutting) → IsCut file bytes.now cutting → Tells result cutting }
     ensures reads_back { (pieces : List Piece) → ArePrintable pieces → bytes.now ≡ spaced pieces → Restores result pieces }

@@ -1,5 +1,6 @@
 use Rattle.std.proofs.Common.{◌∙◌, arith}
 use Rattle.hv_lexer.proofs.Kept.{offsets-fit}
+use Rattle.hv_lexer.proofs.LongestTokens.{lex-longest}
 use Rattle.hv_lexer.proofs.Only.{if_cut, tells}
 use Rattle.hv_lexer.proofs.Parting.{lex-parts}
 use Rattle.hv_lexer.proofs.Printed.{restores}
@@ -29,6 +30,12 @@ returns-clause-parted c =
     if_cut c.args.file c.args.bytes.now c.as_slice.result.now c.as_slice-2.result.now c.cut.result _
     (c.as_slice.ensures ∙ c.in-Ok.ensures.text) (c.as_slice-2.ensures ∙ c.in-Ok.ensures.offsets)
     (lex-parts c.args.file c.args.bytes.now) c.cut.ensures.ok
+
+pub returns-clause-longest : goal.returns-clause-longest
+returns-clause-longest c =
+    if_cut c.args.file c.args.bytes.now c.as_slice.result.now c.as_slice-2.result.now c.cut.result _
+    (c.as_slice.ensures ∙ c.in-Ok.ensures.text) (c.as_slice-2.ensures ∙ c.in-Ok.ensures.offsets)
+    (lex-longest c.args.file c.args.bytes.now) c.cut.ensures.ok
 
 pub returns-clause-total : goal.returns-clause-total
 returns-clause-total c = total c.args.file c.args.bytes.now
