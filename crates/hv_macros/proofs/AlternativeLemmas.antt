@@ -6,7 +6,7 @@ use Rattle.hv_cond.specs.Diagram.{Diagram, IsNode, IsNever, Keeps, holds}
 use Rattle.hv_cond.specs.declared.conditions.Cond.{Cond}
 use Rattle.hv_cond.specs.Laws.{Keeps-refl, Keeps-trans}
 use Rattle.hv_macros.specs.Alternatives.{AllHold, AllNodes, IsAdded, meaning_or, meanings}
-use Rattle.hv_macros.specs.Macro.{Macro, macro_of, undefined}
+use Rattle.hv_toks.specs.Macro.{Macro, macro_of, undefined}
 use Rattle.hv_macros.specs.declared.alternatives.Alternative.{Alternative}
 
 pub meaning_or-append : (d : Diagram) (v : List Bool) (xs ys : List Alternative) (m : Macro) → meaning_or d v (xs ++ ys) m ≡ meaning_or d v xs (meaning_or d v ys m)

@@ -5,7 +5,7 @@ use Rattle.std.proofs.lemmas.List.Kept.{AllPairs-cons}
 use Rattle.hv_cond.specs.Diagram.{AreDisjoint, Diagram, holds}
 use Rattle.hv_cond.specs.declared.conditions.Cond.{Cond}
 use Rattle.hv_macros.specs.Alternatives.{meanings}
-use Rattle.hv_macros.specs.Macro.{Macro, macro_of}
+use Rattle.hv_toks.specs.Macro.{Macro, macro_of}
 use Rattle.hv_macros.specs.declared.alternatives.Alternative.{Alternative}
 
 -- without a meaning no condition holds

@@ -8,7 +8,7 @@ use Rattle.std.proofs.lemmas.Slice.Eq.{bytes_eq-Decides}
 use Rattle.hv_cond.specs.Diagram.{Diagram, Keeps, holds}
 use Rattle.hv_cond.specs.declared.conditions.Cond.{Cond}
 use Rattle.hv_macros.specs.Alternatives.{AllNodes, meaning_or, meanings}
-use Rattle.hv_macros.specs.Macro.{Macro, undefined}
+use Rattle.hv_toks.specs.Macro.{Macro, undefined}
 use Rattle.hv_macros.specs.Table.{IsTableOf, kept, meaning_in}
 use Rattle.hv_macros.specs.declared.alternatives.Alternative.{Alternative}
 use Rattle.hv_macros.specs.declared.tables.MacroTable.{MacroTable}

@@ -2,7 +2,7 @@
 use Rattle.std.specs.Prelude.{◌≡◌, ◌++◌, Bool, List, [], ◌∷◌, if◌then◌else◌}
 use Rattle.hv_cond.specs.Diagram.{Diagram, IsNode, IsNever, holds}
 use Rattle.hv_cond.specs.declared.conditions.Cond.{Cond}
-use Rattle.hv_macros.specs.Macro.{Macro, macro_of}
+use Rattle.hv_toks.specs.Macro.{Macro, macro_of}
 use Rattle.hv_macros.specs.declared.alternatives.Alternative.{Alternative}
 
 -- the meaning of the first alternative whose condition holds, or this one where none does

@@ -1,4 +1,2 @@
 pub mod Alternatives
-pub mod Macro
-pub mod State
 pub mod Table

@@ -4,7 +4,7 @@ use Rattle.std.specs.HashMap.{get_by}
 use Rattle.std.specs.Str.{bytes_eq}
 use Rattle.hv_cond.specs.Diagram.{Diagram}
 use Rattle.hv_macros.specs.Alternatives.{AllNodes, meaning_or}
-use Rattle.hv_macros.specs.Macro.{Macro, undefined}
+use Rattle.hv_toks.specs.Macro.{Macro, undefined}
 use Rattle.hv_macros.specs.declared.alternatives.Alternative.{Alternative}
 use Rattle.hv_macros.specs.declared.tables.MacroTable.{MacroTable}
 

@@ -2,7 +2,7 @@
 ghost use Rattle.std.specs.Prelude.{◌≡◌, ◌&&◌, ◌++◌, ◌∷◌, [], not, true, false, Bool, List, if◌then◌else◌, IfOk, IsTrue, OnOk};
 ghost use Rattle.hv_cond.specs.Diagram.{IsNever, IsNode, Keeps, holds};
 ghost use Rattle.hv_macros.specs.Alternatives.{AllHold, AllNodes, IsAdded, meaning_or, meanings};
-ghost use Rattle.hv_macros.specs.Macro.{Macro, macro_of, undefined};
+ghost use Rattle.hv_toks.specs.Macro.{Macro, macro_of, undefined};
 
 use hv_base::{List, Memory, Place};
 use hv_cond::{Cond, Store};

@@ -2,8 +2,9 @@
 ghost use Rattle.std.specs.Prelude.{◌≡◌, ◌&&◌, ◌∷◌, [], ◌<◌, Bool, List, ℕ, if◌then◌else◌, length, IfOk, OnOk};
 ghost use Rattle.std.specs.Str.{bytes_eq};
 ghost use Rattle.hv_cond.specs.Diagram.{IsNode, Keeps, holds};
-ghost use Rattle.hv_macros.specs.Macro.{undefined};
-ghost use Rattle.hv_macros.specs.State.{beginning, meaning_after, meaning_of, number_macro, number_token, options_from, predefined};
+ghost use Rattle.hv_toks.specs.Macro.{undefined};
+ghost use Rattle.hv_model.specs.Beginning.{beginning, options_from, place_in, predefined};
+ghost use Rattle.hv_toks.specs.MacroState.{entries_of, meaning_after, meaning_of, number_macro, number_token};
 ghost use Rattle.hv_macros.specs.Table.{IsTableOf, meaning_in};
 ghost use Rattle.hv_toks.specs.declared.macros.Body.TheVariants.{Object};
 
@@ -23,7 +24,7 @@ const PREDEFINED_FILE: u32 = 4_294_967_294;
 
 /// The replacement list that is one pp-number.
 fn number_body(alloc: Global, text: &[u8], file: u32, offset: u64) -> Result<Rc<Body>, Memory>
-    ensures { IfOk result (λ body. body.value ≡ Object (number_token text.now file offset ∷ [])) }
+    ensures { IfOk result (λ body. body.value ≡ Object (number_token text.now (place_in file offset) ∷ [])) }
 {
     let token = PpTok {
         kind: PpKind::Number,
@@ -59,7 +60,7 @@ fn define_number(
     ensures keeps { Keeps store.old store.new }
     ensures nodes { IsTableOf store.new table.new }
     ensures defined { OnOk result ((values : List Bool) (other : List ℕ) → meaning_in store.new table.new values other
-        ≡ (if bytes_eq name.now other && holds store.old cond values then number_macro text.now file offset else meaning_in store.old table.old values other)) }
+        ≡ (if bytes_eq name.now other && holds store.old cond values then number_macro text.now (place_in file offset) else meaning_in store.old table.old values other)) }
 {
     let body = number_body(alloc, text, file, offset)?;
     let place = Place {
@@ -82,7 +83,7 @@ fn define_options(
     ensures keeps { Keeps store.old store.new }
     ensures nodes { IsTableOf store.new table.new }
     ensures defined { OnOk result ((values : List Bool) (other : List ℕ) → meaning_in store.new table.new values other
-        ≡ meaning_after (meaning_in store.old table.old values other) (options_from 0 model.now.names values) other) }
+        ≡ meaning_after (meaning_in store.old table.old values other) (entries_of (options_from 0 model.now.names values)) other) }
 {
     for i in 0..model.options() {
         let on = store.var(i as u32)?;
@@ -98,7 +99,7 @@ fn define_predefined(alloc: Global, table: &mut MacroTable, store: &mut Store) -
     ensures keeps { Keeps store.old store.new }
     ensures nodes { IsTableOf store.new table.new }
     ensures defined { OnOk result ((values : List Bool) (other : List ℕ) → meaning_in store.new table.new values other
-        ≡ meaning_after (meaning_in store.old table.old values other) predefined other) }
+        ≡ meaning_after (meaning_in store.old table.old values other) (entries_of predefined) other) }
 {
     let file = PREDEFINED_FILE;
     let always = store.truth();
@@ -134,7 +135,7 @@ impl MacroTable {
         requires { store.old.variables ≡ length model.now.names }
         ensures keeps { Keeps store.old store.new }
         ensures nodes { IfOk result (λ table. IsTableOf store.new table) }
-        ensures begins { IfOk result (λ table. (values : List Bool) (name : List ℕ) → meaning_in store.new table values name ≡ meaning_of (beginning model.now.names values) name) }
+        ensures begins { IfOk result (λ table. (values : List Bool) (name : List ℕ) → meaning_in store.new table values name ≡ meaning_of (entries_of (beginning model.now.names values)) name) }
     {
         let mut table = MacroTable::empty(alloc);
         define_options(alloc, &mut table, model, store)?;

@@ -3,7 +3,7 @@ ghost use Rattle.std.specs.Prelude.{◌≡◌, ◌↔◌, ◌&&◌, ◌∷◌, [
 ghost use Rattle.std.specs.Str.{bytes_eq};
 ghost use Rattle.hv_cond.specs.Diagram.{AreDisjoint, IsNode, Keeps, holds};
 ghost use Rattle.hv_macros.specs.Alternatives.{AllHold, AllNodes, meanings};
-ghost use Rattle.hv_macros.specs.Macro.{defined, macro_of, undefined};
+ghost use Rattle.hv_toks.specs.Macro.{defined, macro_of, undefined};
 ghost use Rattle.hv_macros.specs.Table.{IsTableOf, kept, meaning_in};
 
 use crate::alternatives::{Alternative, overridden, split};

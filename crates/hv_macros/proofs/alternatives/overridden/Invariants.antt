@@ -1,4 +1,4 @@
-use Rattle.hv_macros.specs.Macro.{macro_of}
+use Rattle.hv_toks.specs.Macro.{macro_of}
 use Rattle.hv_macros.proofs.AlternativeLemmas.{IsOverriding}
 use Rattle.hv_macros.proofs.alternatives.overridden.Given as goal
 

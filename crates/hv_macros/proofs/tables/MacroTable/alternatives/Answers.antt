@@ -1,5 +1,5 @@
 use Rattle.hv_macros.specs.Alternatives.{meaning_or}
-use Rattle.hv_macros.specs.Macro.{undefined}
+use Rattle.hv_toks.specs.Macro.{undefined}
 use Rattle.hv_macros.proofs.PartLemmas.{disjoint_parts, together_parts}
 use Rattle.hv_macros.proofs.TableLemmas.{nodes_of, parts_of}
 use Rattle.hv_macros.proofs.tables.MacroTable.alternatives.Goals as goal
