@@ -1,11 +1,13 @@
 pub mod ByteTests
 pub mod Choice
+pub mod Cursors
 mod Examples
 pub mod Gaps
 pub mod Kept
 pub mod Longest
 mod LongestExamples
 pub mod LongestTokens
+pub mod Made
 pub mod Only
 pub mod Parting
 pub mod Pieces

@@ -1,8 +1,7 @@
 -- The longest fronts of the categories, byte by byte.
-use Rattle.std.proofs.Common.{◌≡◌, ℕ, zero, suc, ◌+◌, ◌<◌, ◌≤◌, Bool, true, false, not, List, [], ◌∷◌, cond, refl, sym, ◌∙◌, ap, arith, length, get_or, take, drop}
+use Rattle.std.proofs.Common.{◌≡◌, ℕ, zero, suc, ◌+◌, ◌<◌, ◌≤◌, Bool, true, false, not, List, [], ◌∷◌, cond, refl, sym, ◌∙◌, ap, arith, length, take}
 use Rattle.std.specs.Prelude.{◌&&◌, ◌||◌, ◌==◌}
 use Rattle.std.specs.List.{list_all, prefix_len}
-use Rattle.std.proofs.lemmas.List.{drop_more, drop_all}
 use Rattle.std.proofs.lemmas.Bool.Decides.{nat_tests}
 use Rattle.hv_toks.specs.Lexical.{longest, optional, is_nondigit, is_digit, is_word_byte, is_identifier, is_exponent, is_sign, continues_number, begins_with_digit, is_number, is_empty, closes, is_quoted, is_enclosed, is_header_name}
 use Rattle.hv_lexer.specs.Lengths.{IsLongest, one_more}
@@ -81,13 +80,11 @@ longest-from p xs n e = rw e (longest-is p xs)
 
 -- identifiers
 
-pub identifier-yes : (text : List ℕ) → 0 < length text → is_nondigit (get_or text 0 0) ≡ true → longest is_identifier text ≡ 1 + prefix_len is_word_byte (drop 1 text)
-identifier-yes [] h e = absurd (omega arith)
-identifier-yes (x ∷ xs) h e = gate-yes (is_nondigit x) (list_all is_word_byte) xs e ∙ (ap (shift true) (longest-all is_word_byte xs) ∙ shift-true (prefix_len is_word_byte xs))
+pub identifier-yes : (x : ℕ) (xs : List ℕ) → is_nondigit x ≡ true → longest is_identifier (x ∷ xs) ≡ 1 + prefix_len is_word_byte xs
+identifier-yes x xs e = gate-yes (is_nondigit x) (list_all is_word_byte) xs e ∙ (ap (shift true) (longest-all is_word_byte xs) ∙ shift-true (prefix_len is_word_byte xs))
 
-pub identifier-no : (text : List ℕ) → is_nondigit (get_or text 0 0) ≡ false → longest is_identifier text ≡ 0
-identifier-no [] e = refl
-identifier-no (x ∷ xs) e = gate-no (is_nondigit x) (list_all is_word_byte) xs e
+pub identifier-no : (x : ℕ) (xs : List ℕ) → is_nondigit x ≡ false → longest is_identifier (x ∷ xs) ≡ 0
+identifier-no x xs e = gate-no (is_nondigit x) (list_all is_word_byte) xs e
 
 -- numbers
 
@@ -106,13 +103,8 @@ longest-number_rest exponent (x ∷ xs) =
       | false ↦ λ e. gate-no (may_continue exponent x) (continues_number (is_exponent x)) xs e
     ] refl
 
-pub digits-yes : (text : List ℕ) → 0 < length text → is_digit (get_or text 0 0) ≡ true → longest begins_with_digit text ≡ 1 + longest (continues_number false) (drop 1 text)
-digits-yes [] h e = absurd (omega arith)
-digits-yes (x ∷ xs) h e = gate-yes (is_digit x) (continues_number false) xs e ∙ shift-true (longest (continues_number false) xs)
-
-pub digits-no : (text : List ℕ) → is_digit (get_or text 0 0) ≡ false → longest begins_with_digit text ≡ 0
-digits-no [] e = refl
-digits-no (x ∷ xs) e = gate-no (is_digit x) (continues_number false) xs e
+pub digits-no : (x : ℕ) (xs : List ℕ) → is_digit x ≡ false → longest begins_with_digit (x ∷ xs) ≡ 0
+digits-no x xs e = gate-no (is_digit x) (continues_number false) xs e
 
 -- an optional byte in front
 
@@ -123,20 +115,18 @@ no-second false t b e = rw e refl
 no-first : (a t b : Bool) → a ≡ false → t ≡ true → (a || (t && b)) ≡ b
 no-first a t b e f = rw (e, f) refl
 
-pub optional-yes : (byte : ℕ) (p : List ℕ → Bool) (text : List ℕ) → 0 < length text → (get_or text 0 0 == byte) ≡ true
-    → ((f : List ℕ) → p (get_or text 0 0 ∷ f) ≡ false) → p [] ≡ false
-    → longest (optional byte p) text ≡ one_more (longest p (drop 1 text))
-optional-yes byte p [] h e other none = absurd (omega arith)
-optional-yes byte p (x ∷ xs) h e other none =
+optional-yes : (byte : ℕ) (p : List ℕ → Bool) (x : ℕ) (xs : List ℕ) → (x == byte) ≡ true
+    → ((f : List ℕ) → p (x ∷ f) ≡ false) → p [] ≡ false
+    → longest (optional byte p) (x ∷ xs) ≡ one_more (longest p xs)
+optional-yes byte p x xs e other none =
     let same : (f : List ℕ) → optional byte p (x ∷ f) ≡ p f = λ f. no-first (p (x ∷ f)) (x == byte) (p f) (other f) e in
     ap (λ t. shift t (longest (λ f. optional byte p (x ∷ f)) xs)) (same [] ∙ none)
     ∙ (ap (shift false) (longest-same (λ f. optional byte p (x ∷ f)) p xs (λ y f. same (y ∷ f)))
     ∙ shift-false (longest p xs))
 
-pub optional-no : (byte : ℕ) (p : List ℕ → Bool) (text : List ℕ) → (get_or text 0 0 == byte) ≡ false
-    → longest (optional byte p) text ≡ longest p text
-optional-no byte p [] e = refl
-optional-no byte p (x ∷ xs) e =
+optional-no : (byte : ℕ) (p : List ℕ → Bool) (x : ℕ) (xs : List ℕ) → (x == byte) ≡ false
+    → longest (optional byte p) (x ∷ xs) ≡ longest p (x ∷ xs)
+optional-no byte p x xs e =
     longest-same-at (optional byte p) p x xs (λ f. no-second (p (x ∷ f)) (x == byte) (p f) e)
 
 -- closing quotes
@@ -179,16 +169,8 @@ longest-closes escapes quote false (x ∷ xs) =
 
 -- a loop over the rest of a number
 
-pub number-step : (exponent : Bool) (xs : List ℕ) (i : ℕ) → i < length xs → may_continue exponent (get_or xs i 0) ≡ true
-    → number_rest_len exponent (drop i xs) ≡ 1 + number_rest_len (is_exponent (get_or xs i 0)) (drop (i + 1) xs)
-number-step exponent xs i h e = rw (drop_more xs i 0 h) (rw e refl)
-
-pub number-stop : (exponent : Bool) (xs : List ℕ) (i : ℕ) → i < length xs → may_continue exponent (get_or xs i 0) ≡ false
-    → number_rest_len exponent (drop i xs) ≡ 0
-number-stop exponent xs i h e = rw (drop_more xs i 0 h) (rw e refl)
-
-pub number-end : (exponent : Bool) (xs : List ℕ) (i : ℕ) → length xs ≤ i → number_rest_len exponent (drop i xs) ≡ 0
-number-end exponent xs i h = rw (drop_all i xs h) refl
+pub number-stop : (exponent : Bool) (x : ℕ) (xs : List ℕ) → may_continue exponent x ≡ false → number_rest_len exponent (x ∷ xs) ≡ 0
+number-stop exponent x xs e = rw e refl
 
 -- a loop to a closing quote
 
@@ -211,11 +193,6 @@ differs a b h = grind (arith, nat_tests)
 pub agrees : (a b : ℕ) → a ≡ b → (a == b) ≡ true
 agrees a b h = grind (arith, nat_tests)
 
-closes-more : (escapes : Bool) (quote : ℕ) (escaped : Bool) (x : ℕ) (xs : List ℕ) → (x == 10) ≡ false → (not escaped && x == quote) ≡ false
-    → closes_len escapes quote escaped (x ∷ xs) ≡ one_more (closes_len escapes quote (not escaped && (escapes && x == 92)) xs)
-closes-more escapes quote true x xs e f = rw e refl
-closes-more escapes quote false x xs e f = rw (e, f) refl
-
 closes-here : (escapes : Bool) (quote : ℕ) (escaped : Bool) (x : ℕ) (xs : List ℕ) → (x == 10) ≡ false → (not escaped && x == quote) ≡ true
     → closes_len escapes quote escaped (x ∷ xs) ≡ 1
 closes-here escapes quote true x xs e f = absurd (cc)
@@ -226,78 +203,57 @@ closes-newline : (escapes : Bool) (quote : ℕ) (escaped : Bool) (x : ℕ) (xs :
 closes-newline escapes quote true x xs e = rw e refl
 closes-newline escapes quote false x xs e = rw e refl
 
-module _ (escapes : Bool) (quote : ℕ) (escaped : Bool) (xs : List ℕ) (i : ℕ) (within : i < length xs) where
-  pub closes-step : (get_or xs i 0 ≡ 10 → ⊥) → (not escaped && get_or xs i 0 == quote) ≡ false
-      → shifted i (closes_len escapes quote escaped (drop i xs)) ≡ shifted (i + 1) (closes_len escapes quote (not escaped && (escapes && get_or xs i 0 == 92)) (drop (i + 1) xs))
-  closes-step e f =
-      rw (drop_more xs i 0 within) (ap (shifted i) (closes-more escapes quote escaped (get_or xs i 0) (drop (i + 1) xs) (differs _ _ e) f)
-      ∙ shifted-more i _)
+module _ (escapes : Bool) (quote : ℕ) (escaped : Bool) (i x : ℕ) (xs : List ℕ) where
+  pub closes-stop : (x ≡ 10 → ⊥) → (not escaped && x == quote) ≡ true → shifted i (closes_len escapes quote escaped (x ∷ xs)) ≡ i + 1
+  closes-stop e f = ap (shifted i) (closes-here escapes quote escaped x xs (differs _ _ e) f)
 
-  pub closes-stop : (get_or xs i 0 ≡ 10 → ⊥) → (not escaped && get_or xs i 0 == quote) ≡ true
-      → shifted i (closes_len escapes quote escaped (drop i xs)) ≡ i + 1
-  closes-stop e f = rw (drop_more xs i 0 within) (ap (shifted i) (closes-here escapes quote escaped (get_or xs i 0) (drop (i + 1) xs) (differs _ _ e) f))
-
-  pub closes-never : get_or xs i 0 ≡ 10 → shifted i (closes_len escapes quote escaped (drop i xs)) ≡ 0
-  closes-never e = rw (drop_more xs i 0 within) (ap (shifted i) (closes-newline escapes quote escaped (get_or xs i 0) (drop (i + 1) xs) (agrees _ _ e)))
-
-pub closes-end : (escapes : Bool) (quote : ℕ) (escaped : Bool) (xs : List ℕ) (i : ℕ) → length xs ≤ i → shifted i (closes_len escapes quote escaped (drop i xs)) ≡ 0
-closes-end escapes quote escaped xs i h = rw (drop_all i xs h) refl
+  pub closes-never : x ≡ 10 → shifted i (closes_len escapes quote escaped (x ∷ xs)) ≡ 0
+  closes-never e = ap (shifted i) (closes-newline escapes quote escaped x xs (agrees _ _ e))
 
 -- quotes
 
-pub quoted-yes : (quote : ℕ) (text : List ℕ) → 0 < length text → get_or text 0 0 ≡ quote
-    → longest (is_quoted quote) text ≡ one_more (longest (closes true quote false) (drop 1 text))
-quoted-yes quote [] h e = absurd (omega arith)
-quoted-yes quote (x ∷ xs) h e = gate-yes (x == quote) (closes true quote false) xs (agrees _ _ e) ∙ shift-false _
+pub quoted-no : (quote : ℕ) (x : ℕ) (xs : List ℕ) → (x ≡ quote → ⊥) → longest (is_quoted quote) (x ∷ xs) ≡ 0
+quoted-no quote x xs e = gate-no (x == quote) (closes true quote false) xs (differs _ _ e)
 
-pub quoted-no : (quote : ℕ) (text : List ℕ) → (get_or text 0 0 ≡ quote → ⊥) → longest (is_quoted quote) text ≡ 0
-quoted-no quote [] e = refl
-quoted-no quote (x ∷ xs) e = gate-no (x == quote) (closes true quote false) xs (differs _ _ e)
-
-pub enclosed-yes : (closing : ℕ) (text : List ℕ) → (get_or text 0 0 ≡ closing → ⊥) → longest (is_enclosed closing) text ≡ longest (closes false closing false) text
-enclosed-yes closing [] e = refl
-enclosed-yes closing (x ∷ xs) e =
+pub enclosed-yes : (closing : ℕ) (x : ℕ) (xs : List ℕ) → (x ≡ closing → ⊥) → longest (is_enclosed closing) (x ∷ xs) ≡ longest (closes false closing false) (x ∷ xs)
+enclosed-yes closing x xs e =
     let t : not (x == closing) ≡ true = not-yes _ (differs _ _ e) in
     longest-same-at (is_enclosed closing) (closes false closing false) x xs (λ f. ap (λ b. b && closes false closing false (x ∷ f)) t)
 
-pub enclosed-no : (closing : ℕ) (text : List ℕ) → get_or text 0 0 ≡ closing → longest (is_enclosed closing) text ≡ 0
-enclosed-no closing [] e = refl
-enclosed-no closing (x ∷ xs) e = gate-no (not (x == closing)) (λ f. closes false closing false (x ∷ f)) xs (not-no _ (agrees _ _ e))
+pub enclosed-no : (closing : ℕ) (x : ℕ) (xs : List ℕ) → x ≡ closing → longest (is_enclosed closing) (x ∷ xs) ≡ 0
+enclosed-no closing x xs e = gate-no (not (x == closing)) (λ f. closes false closing false (x ∷ f)) xs (not-no _ (agrees _ _ e))
 
-pub header-angle : (text : List ℕ) → 0 < length text → get_or text 0 0 ≡ 60 → longest is_header_name text ≡ one_more (longest (is_enclosed 62) (drop 1 text))
-header-angle [] h e = absurd (omega arith)
-header-angle (x ∷ xs) h e =
+pub header-angle : (x : ℕ) (xs : List ℕ) → x ≡ 60 → longest is_header_name (x ∷ xs) ≡ one_more (longest (is_enclosed 62) xs)
+header-angle x xs e =
     let same : (f : List ℕ) → is_header_name (x ∷ f) ≡ is_enclosed 62 f = λ f. rw e (or-false (is_enclosed 62 f)) in
     ap (λ t. shift t (longest (λ f. is_header_name (x ∷ f)) xs)) (same [])
     ∙ (ap (shift false) (longest-same (λ f. is_header_name (x ∷ f)) (is_enclosed 62) xs (λ y f. same (y ∷ f))) ∙ shift-false _)
 
-pub header-quote : (text : List ℕ) → 0 < length text → get_or text 0 0 ≡ 34 → longest is_header_name text ≡ one_more (longest (is_enclosed 34) (drop 1 text))
-header-quote [] h e = absurd (omega arith)
-header-quote (x ∷ xs) h e =
+pub header-quote : (x : ℕ) (xs : List ℕ) → x ≡ 34 → longest is_header_name (x ∷ xs) ≡ one_more (longest (is_enclosed 34) xs)
+header-quote x xs e =
     let same : (f : List ℕ) → is_header_name (x ∷ f) ≡ is_enclosed 34 f = λ f. rw e refl in
     ap (λ t. shift t (longest (λ f. is_header_name (x ∷ f)) xs)) (same [])
     ∙ (ap (shift false) (longest-same (λ f. is_header_name (x ∷ f)) (is_enclosed 34) xs (λ y f. same (y ∷ f))) ∙ shift-false _)
 
-pub header-no : (text : List ℕ) → (get_or text 0 0 ≡ 60 → ⊥) → (get_or text 0 0 ≡ 34 → ⊥) → longest is_header_name text ≡ 0
-header-no [] e f = refl
-header-no (x ∷ xs) e f =
+pub header-no : (x : ℕ) (xs : List ℕ) → (x ≡ 60 → ⊥) → (x ≡ 34 → ⊥) → longest is_header_name (x ∷ xs) ≡ 0
+header-no x xs e f =
     let none : (g : List ℕ) → is_header_name (x ∷ g) ≡ false = λ g. rw (differs _ _ e, differs _ _ f) refl in
     ap (λ t. shift t (longest (λ g. is_header_name (x ∷ g)) xs)) (none [])
     ∙ ap (shift false) (longest-none (λ g. is_header_name (x ∷ g)) xs (λ y g. none (y ∷ g)))
 
 -- numbers and wide constants
 
-pub number-dot : (text : List ℕ) → 0 < length text → get_or text 0 0 ≡ 46 → longest is_number text ≡ one_more (longest begins_with_digit (drop 1 text))
-number-dot text h e = optional-yes 46 begins_with_digit text h (agrees _ _ e) (λ f. rw e refl) refl
+pub number-dot : (x : ℕ) (xs : List ℕ) → x ≡ 46 → longest is_number (x ∷ xs) ≡ one_more (longest begins_with_digit xs)
+number-dot x xs e = optional-yes 46 begins_with_digit x xs (agrees _ _ e) (λ f. rw e refl) refl
 
-pub number-digits : (text : List ℕ) → (get_or text 0 0 ≡ 46 → ⊥) → longest is_number text ≡ longest begins_with_digit text
-number-digits text e = optional-no 46 begins_with_digit text (differs _ _ e)
+pub number-digits : (x : ℕ) (xs : List ℕ) → (x ≡ 46 → ⊥) → longest is_number (x ∷ xs) ≡ longest begins_with_digit (x ∷ xs)
+number-digits x xs e = optional-no 46 begins_with_digit x xs (differs _ _ e)
 
-pub wide-yes : (quote : ℕ) (text : List ℕ) → (quote ≡ 76 → ⊥) → 0 < length text → get_or text 0 0 ≡ 76
-    → longest (optional 76 (is_quoted quote)) text ≡ one_more (longest (is_quoted quote) (drop 1 text))
-wide-yes quote text apart h e =
+pub wide-yes : (quote : ℕ) (x : ℕ) (xs : List ℕ) → (quote ≡ 76 → ⊥) → x ≡ 76
+    → longest (optional 76 (is_quoted quote)) (x ∷ xs) ≡ one_more (longest (is_quoted quote) xs)
+wide-yes quote x xs apart e =
     let other : (76 == quote) ≡ false = differs _ _ (λ p. apart (sym p)) in
-    optional-yes 76 (is_quoted quote) text h (agrees _ _ e) (λ f. rw e (rw other refl)) refl
+    optional-yes 76 (is_quoted quote) x xs (agrees _ _ e) (λ f. rw e (rw other refl)) refl
 
-pub wide-no : (quote : ℕ) (text : List ℕ) → (get_or text 0 0 ≡ 76 → ⊥) → longest (optional 76 (is_quoted quote)) text ≡ longest (is_quoted quote) text
-wide-no quote text e = optional-no 76 (is_quoted quote) text (differs _ _ e)
+pub wide-no : (quote : ℕ) (x : ℕ) (xs : List ℕ) → (x ≡ 76 → ⊥) → longest (optional 76 (is_quoted quote)) (x ∷ xs) ≡ longest (is_quoted quote) (x ∷ xs)
+wide-no quote x xs e = optional-no 76 (is_quoted quote) x xs (differs _ _ e)

@@ -1,7 +1,5 @@
 -- How far the cutting of a text has come.
-use Rattle.std.proofs.Common.{◌≡◌, ℕ, ◌+◌, ◌-◌, ◌≤◌, Bool, true, false, List, [], ◌∷◌, ◌++◌, refl, sym, ◌∙◌, ap, arith, length, get_or, take, drop, add-zero}
-use Rattle.std.proofs.lemmas.List.{take_rest, drop-drop, get_or-drop, length-drop}
-use Rattle.hv_toks.specs.declared.front.Front.{Front}
+use Rattle.std.proofs.Common.{◌≡◌, ℕ, Bool, true, false, List, [], ◌∷◌, ◌++◌, refl, sym, ap, get_or, take, drop}
 use Rattle.hv_toks.specs.declared.front.Front.TheVariants.{End, WhiteSpace, Newline, Comment, OpenComment, Token}
 use Rattle.hv_toks.specs.declared.front.Line.{Line}
 use Rattle.hv_toks.specs.declared.front.Line.TheVariants.{Start}
@@ -26,49 +24,35 @@ prepend_all-open [] offset = refl
 prepend_all-open (t ∷ toks) offset = ap (prepend t) (prepend_all-open toks offset)
 
 module _ (file : ℕ) (text places : List ℕ) where
-  -- the tokens so far, and those of the rest, are those of the text
-  abbrev pub Reaches : Line → Bool → ℕ → List PpTok → Type 0
-  Reaches line space at toks = (out : Cutting) → Cuts file line space (drop at text) (drop at places) out → Cuts file Start false text places (prepend_all toks out)
+  -- the tokens so far, and those of what is left, are those of the text
+  abbrev pub Reaches : Line → Bool → (left left_places : List ℕ) → List PpTok → Type 0
+  Reaches line space left left_places toks =
+      (out : Cutting) → Cuts file line space left left_places out → Cuts file Start false text places (prepend_all toks out)
 
-  pub reaches-start : Reaches Start false 0 []
-  reaches-start = λ out c. c
+module _ (file : ℕ) (text places : List ℕ) (line : Line) (space : Bool) (left left_places : List ℕ) (toks : List PpTok)
+    (so_far : Reaches file text places line space left left_places toks) where
+  pub reaches-white : (more more_places : List ℕ) → WhiteSpace ≡ front line left → more ≡ drop 1 left → more_places ≡ drop 1 left_places
+      → Reaches file text places line true more more_places toks
+  reaches-white more more_places e t p = λ out c. so_far out (at_white (sym e) (rw (t, p) at c))
 
-module _ (file : ℕ) (text places : List ℕ) (line : Line) (space : Bool) (at : ℕ) (toks : List PpTok) (so_far : Reaches file text places line space at toks) where
-  front-there : (f : Front) → f ≡ front line (take (length text - at) (drop at text)) → front line (drop at text) ≡ f
-  front-there f e = sym (rw take_rest at e)
+  pub reaches-newline : (more more_places : List ℕ) → Newline ≡ front line left → more ≡ drop 1 left → more_places ≡ drop 1 left_places
+      → Reaches file text places Start false more more_places toks
+  reaches-newline more more_places e t p = λ out c. so_far out (at_newline (sym e) (rw (t, p) at c))
 
-  moved : (n : ℕ) (next : Line) (spaced : Bool) (out : Cutting) → Cuts file next spaced (drop (at + n) text) (drop (at + n) places) out
-      → Cuts file next spaced (drop n (drop at text)) (drop n (drop at places)) out
-  moved n next spaced out c = rw (drop-drop n at text, drop-drop n at places) c
+  pub reaches-comment : (n : ℕ) (more more_places : List ℕ) → Comment n ≡ front line left → more ≡ drop n left → more_places ≡ drop n left_places
+      → Reaches file text places line true more more_places toks
+  reaches-comment n more more_places e t p = λ out c. so_far out (at_comment n (sym e) (rw (t, p) at c))
 
-  pub reaches-white : WhiteSpace ≡ front line (take (length text - at) (drop at text)) → Reaches file text places line true (at + 1) toks
-  reaches-white e = λ out c. so_far out (at_white (front-there WhiteSpace e) (moved 1 line true out c))
+  pub reaches-end : End ≡ front line left → Cuts file Start false text places (tokens toks)
+  reaches-end e = rw prepend_all-tokens at (so_far (tokens []) (at_end (sym e)))
 
-  pub reaches-newline : Newline ≡ front line (take (length text - at) (drop at text)) → Reaches file text places Start false (at + 1) toks
-  reaches-newline e = λ out c. so_far out (at_newline (front-there Newline e) (moved 1 Start false out c))
+  pub reaches-open : (offset : ℕ) → OpenComment ≡ front line left → offset ≡ get_or left_places 0 0
+      → Cuts file Start false text places (open_comment offset)
+  reaches-open offset e o = rw o (rw prepend_all-open at (so_far _ (at_open_comment (sym e))))
 
-  pub reaches-comment : (n : ℕ) → Comment n ≡ front line (take (length text - at) (drop at text)) → Reaches file text places line true (at + n) toks
-  reaches-comment n e = λ out c. so_far out (at_comment n (front-there (Comment n) e) (moved n line true out c))
-
-  pub reaches-end : End ≡ front line (take (length text - at) (drop at text)) → Cuts file Start false text places (tokens toks)
-  reaches-end e = rw prepend_all-tokens at (so_far (tokens []) (at_end (front-there End e)))
-
-  pub reaches-open : OpenComment ≡ front line (take (length text - at) (drop at text)) → Cuts file Start false text places (open_comment (get_or places at 0))
-  reaches-open e =
-      let c = so_far _ (at_open_comment (front-there OpenComment e)) in
-      let place : get_or (drop at places) 0 0 ≡ get_or places at 0 = get_or-drop at places 0 0 ∙ ap (λ k. get_or places k 0) (add-zero at) in
-      rw place at (rw prepend_all-open at c)
-
-  taken : (n : ℕ) (xs : List ℕ) → take (at + n - at) (drop at xs) ≡ take n (drop at xs)
-  taken n xs = let e : at + n - at ≡ n = omega arith in rw e refl
-
-  pub reaches-token : (m : Match) (more : List PpTok) → Token m ≡ front line (take (length text - at) (drop at text))
-      → more ≡ toks ++ token file line space m.kind (take (at + m.len - at) (drop at text)) (take (at + m.len - at) (drop at places)) ∷ []
-      → Reaches file text places (behind line (take (at + m.len - at) (drop at text))) false (at + m.len) more
-  reaches-token m more e pushed = λ out c.
-      let here = at_token m (front-there (Token m) e) (moved m.len (behind line (take m.len (drop at text))) false out (rw taken at c)) in
-      let whole = so_far _ here in
-      rw (pushed, prepend_all-push, taken m.len text, taken m.len places) whole
-
-pub room : (text : List ℕ) (at n : ℕ) → at ≤ length text → n ≤ length (take (length text - at) (drop at text)) → at + n ≤ length text
-room text at n h e = let f = rw (take_rest, length-drop) at e in omega arith
+  pub reaches-token : (m : Match) (next : Line) (more more_places : List ℕ) (all : List PpTok) → Token m ≡ front line left
+      → all ≡ toks ++ token file line space m.kind (take m.len left) (take m.len left_places) ∷ []
+      → next ≡ behind line (take m.len left) → more ≡ drop m.len left → more_places ≡ drop m.len left_places
+      → Reaches file text places next false more more_places all
+  reaches-token m next more more_places all e pushed l t p = λ out c.
+      rw (pushed, prepend_all-push) (so_far _ (at_token m (sym e) (rw (l, t, p) at c)))

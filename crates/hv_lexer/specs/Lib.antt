@@ -1,3 +1,4 @@
+pub mod Cursors
 pub mod Fronts
 pub mod Laws
 pub mod Lengths

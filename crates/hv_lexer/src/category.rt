@@ -3,8 +3,11 @@
 ghost use Rattle.std.specs.Prelude.{◌≡◌, ◌≤◌, ◌<◌, ◌-◌, ◌^◌, ◌||◌, ◌==◌, ◌&&◌, length, not, false};
 ghost use Rattle.std.specs.List.{prefix_len, list_any};
 ghost use Rattle.std.specs.Str.{bytes_eq};
+ghost use Rattle.hv_lexer.specs.Cursors.{text_of, text_from};
 ghost use Rattle.hv_lexer.specs.Lengths.{IsLongest, one_more};
 ghost use Rattle.hv_toks.specs.Lexical.{longest, continues_number, optional, is_nondigit, is_digit, is_word_byte, is_identifier, is_exponent, is_sign, is_number, begins_with_digit, closes, is_quoted, is_char_constant, is_string_literal, is_enclosed, is_header_name, is_punctuator};
+
+use crate::cursor::{Cursor, Next};
 
 fn is_nondigit(byte: u8) -> bool
     ensures { result ≡ is_nondigit byte }
@@ -31,21 +34,31 @@ fn is_sign(byte: u8) -> bool
 }
 
 /// How many bytes the text begins with that may stand in an identifier behind its first.
-fn word_len(text: &[u8]) -> usize
-    ensures value { result ≡ prefix_len is_word_byte text.now }
-    ensures within { result ≤ length text.now }
+fn word_len(text: Cursor) -> usize
+    ensures value { result ≡ prefix_len is_word_byte (text_of text.entry) }
+    ensures within { result ≤ length (text_of text.entry) }
 {
-    text.iter().take_while(|byte| is_word_byte(**byte)).count()
+    let mut rest = text;
+    let mut len = 0;
+    while let Some(next) = rest.next() {
+        if !is_word_byte(next.byte) {
+            return len;
+        }
+        rest = next.rest;
+        len += 1;
+    }
+    len
 }
 
-pub(crate) fn identifier_len(text: &[u8]) -> usize
-    ensures value { result ≡ longest is_identifier text.now }
-    ensures greatest { IsLongest is_identifier text.now result }
-    ensures within { result ≤ length text.now }
+pub(crate) fn identifier_len(first: Next) -> usize
+    ensures value { result ≡ longest is_identifier (text_from first.entry) }
+    ensures greatest { IsLongest is_identifier (text_from first.entry) result }
+    ensures within { result ≤ length (text_from first.entry) }
 {
-    match text {
-        [first, rest @ ..] if is_nondigit(*first) => 1 + word_len(rest),
-        _ => 0,
+    if is_nondigit(first.byte) {
+        1 + word_len(first.rest)
+    } else {
+        0
     }
 }
 
@@ -57,27 +70,34 @@ fn continues_number(exponent: bool, byte: u8) -> bool
 }
 
 /// How many bytes the text begins with that go on with a number.
-fn number_rest_len(text: &[u8]) -> usize
-    ensures value { result ≡ longest (continues_number false) text.now }
-    ensures within { result ≤ length text.now }
+fn number_rest_len(text: Cursor) -> usize
+    ensures value { result ≡ longest (continues_number false) (text_of text.entry) }
+    ensures within { result ≤ length (text_of text.entry) }
 {
+    let mut rest = text;
+    let mut len = 0;
     let mut exponent = false;
-    for (i, byte) in text.iter().enumerate() {
-        if !continues_number(exponent, *byte) {
-            return i;
+    while let Some(next) = rest.next() {
+        if !continues_number(exponent, next.byte) {
+            return len;
         }
-        exponent = is_exponent(*byte);
+        exponent = is_exponent(next.byte);
+        rest = next.rest;
+        len += 1;
     }
-    text.len()
+    len
 }
 
-fn digits_len(text: &[u8]) -> usize
-    ensures value { result ≡ longest begins_with_digit text.now }
-    ensures within { result ≤ length text.now }
+// Inlined, since a call would hand `first` on through memory.
+#[inline(always)]
+fn digits_len(first: Next) -> usize
+    ensures value { result ≡ longest begins_with_digit (text_from first.entry) }
+    ensures within { result ≤ length (text_from first.entry) }
 {
-    match text {
-        [first, rest @ ..] if first.is_ascii_digit() => 1 + number_rest_len(rest),
-        _ => 0,
+    if first.byte.is_ascii_digit() {
+        1 + number_rest_len(first.rest)
+    } else {
+        0
     }
 }
 
@@ -89,15 +109,17 @@ fn behind_byte(len: usize) -> usize
     if len == 0 { 0 } else { len + 1 }
 }
 
-pub(crate) fn number_len(text: &[u8]) -> usize
-    ensures value { result ≡ longest is_number text.now }
-    ensures greatest { IsLongest is_number text.now result }
-    ensures within { result ≤ length text.now }
+pub(crate) fn number_len(first: Next) -> usize
+    ensures value { result ≡ longest is_number (text_from first.entry) }
+    ensures greatest { IsLongest is_number (text_from first.entry) result }
+    ensures within { result ≤ length (text_from first.entry) }
 {
-    match text {
-        [] => 0,
-        [first, rest @ ..] if *first == b'.' => behind_byte(digits_len(rest)),
-        _ => digits_len(text),
+    if first.byte != b'.' {
+        return digits_len(first);
+    }
+    match first.rest.next() {
+        Some(second) => behind_byte(digits_len(second)),
+        None => 0,
     }
 }
 
@@ -116,79 +138,90 @@ fn is_escape(escaped: bool, escapes: bool, byte: u8) -> bool
 }
 
 /// How many bytes there are up to and with the closing quote; 0 where there is none on the line.
-fn closing_len(text: &[u8], escapes: bool, quote: u8) -> usize
-    ensures value { result ≡ longest (closes escapes quote false) text.now }
-    ensures within { result ≤ length text.now }
+fn closing_len(text: Cursor, escapes: bool, quote: u8) -> usize
+    ensures value { result ≡ longest (closes escapes quote false) (text_of text.entry) }
+    ensures within { result ≤ length (text_of text.entry) }
 {
+    let mut rest = text;
+    let mut len = 0;
     let mut escaped = false;
-    for (i, byte) in text.iter().enumerate() {
-        if *byte == b'\n' {
+    while let Some(next) = rest.next() {
+        if next.byte == b'\n' {
             return 0;
         }
-        if is_closing(escaped, quote, *byte) {
-            return i + 1;
+        if is_closing(escaped, quote, next.byte) {
+            return len + 1;
         }
-        escaped = is_escape(escaped, escapes, *byte);
+        escaped = is_escape(escaped, escapes, next.byte);
+        rest = next.rest;
+        len += 1;
     }
     0
 }
 
-fn quoted_len(text: &[u8], quote: u8) -> usize
-    ensures value { result ≡ longest (is_quoted quote) text.now }
-    ensures within { result ≤ length text.now }
+fn quoted_len(first: Next, quote: u8) -> usize
+    ensures value { result ≡ longest (is_quoted quote) (text_from first.entry) }
+    ensures within { result ≤ length (text_from first.entry) }
 {
-    match text {
-        [first, rest @ ..] if *first == quote => behind_byte(closing_len(rest, true, quote)),
-        _ => 0,
+    if first.byte == quote {
+        behind_byte(closing_len(first.rest, true, quote))
+    } else {
+        0
     }
 }
 
-fn wide_quoted_len(text: &[u8], quote: u8) -> usize
+// Inlined, since a call would hand `first` on through memory.
+#[inline(always)]
+fn wide_quoted_len(first: Next, quote: u8) -> usize
     requires { (quote ≡ 76) → ⊥ }
-    ensures value { result ≡ longest (optional 76 (is_quoted quote)) text.now }
-    ensures within { result ≤ length text.now }
+    ensures value { result ≡ longest (optional 76 (is_quoted quote)) (text_from first.entry) }
+    ensures within { result ≤ length (text_from first.entry) }
 {
-    match text {
-        [] => 0,
-        [first, rest @ ..] if *first == b'L' => behind_byte(quoted_len(rest, quote)),
-        _ => quoted_len(text, quote),
+    if first.byte != b'L' {
+        return quoted_len(first, quote);
+    }
+    match first.rest.next() {
+        Some(second) => behind_byte(quoted_len(second, quote)),
+        None => 0,
     }
 }
 
-pub(crate) fn char_constant_len(text: &[u8]) -> usize
-    ensures value { result ≡ longest is_char_constant text.now }
-    ensures greatest { IsLongest is_char_constant text.now result }
-    ensures within { result ≤ length text.now }
+pub(crate) fn char_constant_len(first: Next) -> usize
+    ensures value { result ≡ longest is_char_constant (text_from first.entry) }
+    ensures greatest { IsLongest is_char_constant (text_from first.entry) result }
+    ensures within { result ≤ length (text_from first.entry) }
 {
-    wide_quoted_len(text, b'\'')
+    wide_quoted_len(first, b'\'')
 }
 
-pub(crate) fn string_literal_len(text: &[u8]) -> usize
-    ensures value { result ≡ longest is_string_literal text.now }
-    ensures greatest { IsLongest is_string_literal text.now result }
-    ensures within { result ≤ length text.now }
+pub(crate) fn string_literal_len(first: Next) -> usize
+    ensures value { result ≡ longest is_string_literal (text_from first.entry) }
+    ensures greatest { IsLongest is_string_literal (text_from first.entry) result }
+    ensures within { result ≤ length (text_from first.entry) }
 {
-    wide_quoted_len(text, b'"')
+    wide_quoted_len(first, b'"')
 }
 
-fn enclosed_len(text: &[u8], closing: u8) -> usize
-    ensures value { result ≡ longest (is_enclosed closing) text.now }
-    ensures within { result ≤ length text.now }
+fn enclosed_len(text: Cursor, closing: u8) -> usize
+    ensures value { result ≡ longest (is_enclosed closing) (text_of text.entry) }
+    ensures within { result ≤ length (text_of text.entry) }
 {
-    match text {
-        [first, ..] if *first != closing => closing_len(text, false, closing),
+    match text.next() {
+        Some(next) if next.byte != closing => closing_len(text, false, closing),
         _ => 0,
     }
 }
 
-pub(crate) fn header_name_len(text: &[u8]) -> usize
-    ensures value { result ≡ longest is_header_name text.now }
-    ensures greatest { IsLongest is_header_name text.now result }
-    ensures within { result ≤ length text.now }
+pub(crate) fn header_name_len(first: Next) -> usize
+    ensures value { result ≡ longest is_header_name (text_from first.entry) }
+    ensures greatest { IsLongest is_header_name (text_from first.entry) result }
+    ensures within { result ≤ length (text_from first.entry) }
 {
-    match text {
-        [first, rest @ ..] if *first == b'<' => behind_byte(enclosed_len(rest, b'>')),
-        [first, rest @ ..] if *first == b'"' => behind_byte(enclosed_len(rest, b'"')),
-        _ => 0,
+    if first.byte == b'<' {
+        behind_byte(enclosed_len(first.rest, b'>'))
+    } else if first.byte == b'"' {
+        behind_byte(enclosed_len(first.rest, b'"'))
+    } else {
+        0
     }
 }

@@ -2,12 +2,14 @@
 
 ghost use Rattle.std.specs.Prelude.{◌≡◌, ◌≤◌, ◌<◌, length, IsTrue, codes, nat_eq};
 ghost use Rattle.std.specs.List.{starts_with};
+ghost use Rattle.hv_lexer.specs.Cursors.{text_of, text_from};
 ghost use Rattle.hv_lexer.specs.Fronts.{front_len, IsSome};
 ghost use Rattle.hv_toks.specs.Cutting.{longer, longest_token, other, token_at, block_comment, front};
 
 use crate::category::{
     char_constant_len, header_name_len, identifier_len, number_len, string_literal_len,
 };
+use crate::cursor::{Cursor, Next};
 use crate::gap::{closing_len, is_white, line_len};
 use crate::punctuator::punctuator_len;
 use hv_toks::{Front, Line, Match, PpKind};
@@ -19,29 +21,29 @@ fn longer(a: Match, b: Match) -> Match
 }
 
 /// The longest token, whatever stands before it.
-fn longest_token(text: &[u8]) -> Match
-    ensures value { result ≡ longest_token text.now }
-    ensures within { result.len ≤ length text.now }
+fn longest_token(first: Next) -> Match
+    ensures value { result ≡ longest_token (text_from first.entry) }
+    ensures within { result.len ≤ length (text_from first.entry) }
 {
     let identifier = Match {
         kind: PpKind::Identifier,
-        len: identifier_len(text),
+        len: identifier_len(first),
     };
     let number = Match {
         kind: PpKind::Number,
-        len: number_len(text),
+        len: number_len(first),
     };
     let char_constant = Match {
         kind: PpKind::CharConstant,
-        len: char_constant_len(text),
+        len: char_constant_len(first),
     };
     let string_literal = Match {
         kind: PpKind::StringLiteral,
-        len: string_literal_len(text),
+        len: string_literal_len(first),
     };
     let punctuator = Match {
         kind: PpKind::Punctuator,
-        len: punctuator_len(text),
+        len: punctuator_len(first),
     };
     longer(
         identifier,
@@ -53,14 +55,13 @@ fn longest_token(text: &[u8]) -> Match
 }
 
 /// What fits nothing: an unclosed quote with all its line, or one byte.
-fn other(text: &[u8]) -> Match
-    ensures value { result ≡ other text.now }
-    ensures within { result.len ≤ length text.now }
-    ensures some { 0 < length text.now → 0 < result.len }
+fn other(first: Next) -> Match
+    ensures value { result ≡ other (text_from first.entry) }
+    ensures within { result.len ≤ length (text_from first.entry) }
+    ensures some { 0 < result.len }
 {
-    let len = match text {
-        [] => 0,
-        [b'\'' | b'"', rest @ ..] => 1 + line_len(rest),
+    let len = match first.byte {
+        b'\'' | b'"' => 1 + line_len(first.rest),
         _ => 1,
     };
     Match {
@@ -69,13 +70,13 @@ fn other(text: &[u8]) -> Match
     }
 }
 
-fn token_at(line: Line, text: &[u8]) -> Match
-    ensures value { result ≡ token_at line text.now }
-    ensures within { result.len ≤ length text.now }
-    ensures some { 0 < length text.now → 0 < result.len }
+fn token_at(line: Line, first: Next) -> Match
+    ensures value { result ≡ token_at line (text_from first.entry) }
+    ensures within { result.len ≤ length (text_from first.entry) }
+    ensures some { 0 < result.len }
 {
     if let Line::Include = line {
-        let len = header_name_len(text);
+        let len = header_name_len(first);
         if 0 < len {
             return Match {
                 kind: PpKind::HeaderName,
@@ -83,18 +84,18 @@ fn token_at(line: Line, text: &[u8]) -> Match
             };
         }
     }
-    let found = longest_token(text);
-    if 0 < found.len { found } else { other(text) }
+    let found = longest_token(first);
+    if 0 < found.len { found } else { other(first) }
 }
 
 /// The comment that the text begins with.
-fn block_comment(text: &[u8]) -> Front
-    requires { 2 ≤ length text.now }
-    ensures value { result ≡ block_comment text.now }
-    ensures within { front_len result ≤ length text.now }
+fn block_comment(text: Cursor) -> Front
+    requires { 2 ≤ length (text_of text) }
+    ensures value { result ≡ block_comment (text_of text.entry) }
+    ensures within { front_len result ≤ length (text_of text.entry) }
     ensures some { 0 < front_len result }
 {
-    let len = closing_len(&text[2..]);
+    let len = closing_len(text.skip(2));
     if len == 0 {
         Front::OpenComment
     } else {
@@ -103,22 +104,23 @@ fn block_comment(text: &[u8]) -> Front
 }
 
 /// What the text begins with.
-pub(crate) fn front(line: Line, text: &[u8]) -> Front
-    ensures value { result ≡ front line text.now }
-    ensures within { front_len result ≤ length text.now }
+pub(crate) fn front(line: Line, text: Cursor) -> Front
+    ensures value { result ≡ front line (text_of text.entry) }
+    ensures within { front_len result ≤ length (text_of text.entry) }
     ensures some { IsSome result }
 {
-    if text.is_empty() {
-        Front::End
-    } else if text[0] == b'\n' {
+    let Some(first) = text.next() else {
+        return Front::End;
+    };
+    if first.byte == b'\n' {
         Front::Newline
-    } else if is_white(text[0]) {
+    } else if is_white(first.byte) {
         Front::WhiteSpace
-    } else if text.starts_with(b"//") {
+    } else if first.begins(b'/', b'/') {
         Front::Comment(line_len(text))
-    } else if text.starts_with(b"/*") {
+    } else if first.begins(b'/', b'*') {
         block_comment(text)
     } else {
-        Front::Token(token_at(line, text))
+        Front::Token(token_at(line, first))
     }
 }

@@ -1,7 +1,10 @@
 //! White space and comments.
 
 ghost use Rattle.std.specs.Prelude.{◌≡◌, ◌≤◌, length};
+ghost use Rattle.hv_lexer.specs.Cursors.{text_of, text_from};
 ghost use Rattle.hv_toks.specs.Cutting.{is_white, ends_line, line_len, closing_len};
+
+use crate::cursor::{Cursor, Next};
 
 /// Whether the byte is white space that is no newline.
 pub(crate) fn is_white(byte: u8) -> bool
@@ -11,33 +14,42 @@ pub(crate) fn is_white(byte: u8) -> bool
 }
 
 /// Whether a line ends here.
-fn ends_line(text: &[u8]) -> bool
-    ensures { result ≡ ends_line text.now }
+fn ends_line(first: Next) -> bool
+    ensures { result ≡ ends_line (text_from first.entry) }
 {
-    text.starts_with(b"\n") || text.starts_with(b"\r\n")
+    first.byte == b'\n' || first.begins(b'\r', b'\n')
 }
 
 /// How many bytes there are to the end of the line.
-pub(crate) fn line_len(text: &[u8]) -> usize
-    ensures value { result ≡ line_len text.now }
-    ensures within { result ≤ length text.now }
+pub(crate) fn line_len(text: Cursor) -> usize
+    ensures value { result ≡ line_len (text_of text.entry) }
+    ensures within { result ≤ length (text_of text.entry) }
 {
+    let mut rest = text;
     let mut len = 0;
-    while len < text.len() && !ends_line(&text[len..]) {
+    while let Some(next) = rest.next() {
+        if ends_line(next) {
+            return len;
+        }
+        rest = next.rest;
         len += 1;
     }
     len
 }
 
 /// How many bytes there are up to and with the first `*/`; 0 where there is none.
-pub(crate) fn closing_len(text: &[u8]) -> usize
-    ensures value { result ≡ closing_len text.now }
-    ensures within { result ≤ length text.now }
+pub(crate) fn closing_len(text: Cursor) -> usize
+    ensures value { result ≡ closing_len (text_of text.entry) }
+    ensures within { result ≤ length (text_of text.entry) }
 {
-    for at in 0..text.len() {
-        if text[at..].starts_with(b"*/") {
-            return at + 2;
+    let mut rest = text;
+    let mut len = 0;
+    while let Some(next) = rest.next() {
+        if next.begins(b'*', b'/') {
+            return len + 2;
         }
+        rest = next.rest;
+        len += 1;
     }
     0
 }

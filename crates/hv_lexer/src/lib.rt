@@ -1,4 +1,4 @@
-//! Cuts source files into preprocessing tokens.
+//! Cuts source files into preprocessing tokens, in one pass over their bytes.
 #![tactic(auto)]
 
 ghost use Rattle.std.specs.Prelude.{◌≡◌, IfOk, IfErr, length};
@@ -8,13 +8,14 @@ ghost use Rattle.hv_lexer.specs.Refusal.{IsRefusalOf, Tells};
 ghost use Rattle.hv_toks.specs.Cutting.{Cutting, IsCut, tokens};
 
 mod category;
+mod cursor;
 mod cut;
 mod front;
 mod gap;
 mod punctuator;
 mod refusal;
-mod splices;
 
+use cursor::Cursor;
 use hv_base::List;
 use hv_toks::PpTok;
 pub use refusal::LexRefusal;
@@ -33,15 +34,7 @@ pub fn lex(alloc: Global, file: u32, bytes: &[u8]) -> Result<List<PpTok>, LexRef
     ensures only { (cutting : Cutting) → IsCut file bytes.now cutting → Tells result cutting }
     ensures reads_back { (pieces : List Piece) → ArePrintable pieces → bytes.now ≡ spaced pieces → Restores result pieces }
 {
-    let Ok(spliced) = splices::splice(alloc, bytes) else {
-        return Err(LexRefusal::Memory);
-    };
-    cut::cut(
-        alloc,
-        file,
-        spliced.text.as_slice(),
-        spliced.offsets.as_slice(),
-    )
+    cut::cut(alloc, file, Cursor::new(bytes))
 }
 
 #[cfg(test)]

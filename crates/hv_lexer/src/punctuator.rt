@@ -1,10 +1,13 @@
 //! How long the longest punctuator is that a text begins with.
 
-ghost use Rattle.std.specs.Prelude.{◌≡◌, ◌≤◌, length, [], ◌∷◌};
+ghost use Rattle.std.specs.Prelude.{◌≡◌, ◌≤◌, ◌<◌, length, take, [], ◌∷◌, MatchOption};
 ghost use Rattle.std.specs.List.{list_any};
 ghost use Rattle.std.specs.Str.{bytes_eq};
+ghost use Rattle.hv_lexer.specs.Cursors.{text_from};
 ghost use Rattle.hv_lexer.specs.Lengths.{IsLongest, begins_with_punctuator};
 ghost use Rattle.hv_toks.specs.Lexical.{longest, is_punctuator};
+
+use crate::cursor::Next;
 
 /// The punctuators of two bytes.
 const PAIRS: [&str; 20] = [
@@ -55,11 +58,21 @@ fn is_single(byte: u8) -> bool
     )
 }
 
-/// Whether the first byte is a punctuator.
-fn begins_with_single(text: &[u8]) -> bool
-    ensures { result ≡ begins_with_punctuator 1 text.now }
+/// The first two bytes, or `None` where there is but one.
+fn first_two(first: Next) -> Option<[u8; 2]>
+    ensures { MatchOption result (length (text_from first.entry) < 2) (λ pair. (2 ≤ length (text_from first.entry)) × (pair ≡ take 2 (text_from first.entry))) }
 {
-    !text.is_empty() && is_single(text[0])
+    let second = first.rest.next()?;
+    Some([first.byte, second.byte])
+}
+
+/// The first three bytes, or `None` where there are fewer.
+fn first_three(first: Next) -> Option<[u8; 3]>
+    ensures { MatchOption result (length (text_from first.entry) < 3) (λ triple. (3 ≤ length (text_from first.entry)) × (triple ≡ take 3 (text_from first.entry))) }
+{
+    let second = first.rest.next()?;
+    let third = second.rest.next()?;
+    Some([first.byte, second.byte, third.byte])
 }
 
 fn is_pair(text: &[u8]) -> bool
@@ -70,10 +83,13 @@ fn is_pair(text: &[u8]) -> bool
 }
 
 /// Whether the first two bytes are a punctuator.
-fn begins_with_pair(text: &[u8]) -> bool
-    ensures { result ≡ begins_with_punctuator 2 text.now }
+fn begins_with_pair(first: Next) -> bool
+    ensures { result ≡ begins_with_punctuator 2 (text_from first.entry) }
 {
-    text.len() >= 2 && is_pair(&text[..2])
+    match first_two(first) {
+        Some(pair) => is_pair(&pair),
+        None => false,
+    }
 }
 
 fn is_triple(text: &[u8]) -> bool
@@ -84,25 +100,29 @@ fn is_triple(text: &[u8]) -> bool
 }
 
 /// Whether the first three bytes are a punctuator.
-fn begins_with_triple(text: &[u8]) -> bool
-    ensures { result ≡ begins_with_punctuator 3 text.now }
+fn begins_with_triple(first: Next) -> bool
+    ensures { result ≡ begins_with_punctuator 3 (text_from first.entry) }
 {
-    text.len() >= 3 && is_triple(&text[..3])
+    match first_three(first) {
+        Some(triple) => is_triple(&triple),
+        None => false,
+    }
 }
 
 /// The length of the longest punctuator at the front, 0 where there is none.
-pub(crate) fn punctuator_len(text: &[u8]) -> usize
-    ensures value { result ≡ longest is_punctuator text.now }
-    ensures greatest { IsLongest is_punctuator text.now result }
-    ensures within { result ≤ length text.now }
+pub(crate) fn punctuator_len(first: Next) -> usize
+    ensures value { result ≡ longest is_punctuator (text_from first.entry) }
+    ensures greatest { IsLongest is_punctuator (text_from first.entry) result }
+    ensures within { result ≤ length (text_from first.entry) }
 {
-    if begins_with_triple(text) {
-        3
-    } else if begins_with_pair(text) {
-        2
-    } else if begins_with_single(text) {
-        1
-    } else {
+    // Each punctuator begins with one of one byte, and most tokens don't.
+    if !is_single(first.byte) {
         0
+    } else if begins_with_triple(first) {
+        3
+    } else if begins_with_pair(first) {
+        2
+    } else {
+        1
     }
 }

@@ -1,9 +1,10 @@
 use Rattle.std.proofs.Common.{sym, ◌∙◌}
+use Rattle.hv_lexer.specs.Cursors.{text_of}
 use Rattle.hv_lexer.proofs.Longest.{enclosed-yes, enclosed-no}
 use Rattle.hv_lexer.proofs.category.enclosed_len.Goals as goal
 
-pub returns-in-len1-up-clause-value : goal.returns-in-len1-up-clause-value
-returns-in-len1-up-clause-value c = c.closing_len.ensures.value ∙ sym (enclosed-yes c.args.closing c.args.text.now c.if-first-closing.true)
+pub returns-in-Some-clause-value : goal.returns-in-Some-clause-value
+returns-in-Some-clause-value c = c.closing_len.ensures.value ∙ sym (rw c.in-Some.ensures.text (enclosed-yes c.args.closing c.in-Some.next.byte (text_of c.in-Some.next.rest) c.if-next-closing.true))
 
-pub returns-in_default-2-clause-value : goal.returns-in_default-2-clause-value
-returns-in_default-2-clause-value c = sym (enclosed-no c.args.closing c.args.text.now c.if-first-closing.false)
+pub returns-in_default-clause-value : goal.returns-in_default-clause-value
+returns-in_default-clause-value c = rw c.in-Some.ensures.text (sym (enclosed-no c.args.closing c.in-Some.next.byte (text_of c.in-Some.next.rest) c.if-next-closing.false))

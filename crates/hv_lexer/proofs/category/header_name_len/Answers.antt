@@ -1,23 +1,30 @@
 use Rattle.std.proofs.Common.{sym, ap, ◌∙◌, arith}
-use Rattle.std.proofs.lemmas.List.{take_rest}
+use Rattle.hv_lexer.specs.Cursors.{text_of, text_from}
 use Rattle.hv_lexer.specs.Lengths.{one_more}
 use Rattle.hv_toks.specs.Lexical.{is_header_name}
+use Rattle.hv_lexer.proofs.Cursors.{text-bounded}
 use Rattle.hv_lexer.proofs.Longest.{longest-from, header-angle, header-quote, header-no}
 use Rattle.hv_lexer.proofs.category.header_name_len.Goals as goal
 
-pub returns-in-len1-up-clause-value : goal.returns-in-len1-up-clause-value
-returns-in-len1-up-clause-value c =
-    c.behind_byte.ensures ∙ (ap one_more (rw take_rest at c.enclosed_len.ensures.value) ∙ sym (header-angle c.args.text.now (omega (arith, c.in-len1-up.len_at_least)) c.if-first-eq60.true))
+pub behind_byte-requires : goal.behind_byte-requires
+behind_byte-requires c = let h = text-bounded c.args.first.rest in omega arith
 
-pub returns-in-len1-up-2-clause-value : goal.returns-in-len1-up-2-clause-value
-returns-in-len1-up-2-clause-value c =
-    c.behind_byte-in-len1-up-2.ensures ∙ (ap one_more (rw take_rest at c.enclosed_len-in-len1-up-2.ensures.value) ∙ sym (header-quote c.args.text.now (omega (arith, c.in-len1-up.len_at_least)) c.if-first-eq34.true))
+pub behind_byte-requires-then-first-eq34 : goal.behind_byte-requires-then-first-eq34
+behind_byte-requires-then-first-eq34 c = let h = text-bounded c.args.first.rest in omega arith
 
-pub returns-in_default-2-clause-value : goal.returns-in_default-2-clause-value
-returns-in_default-2-clause-value c = sym (header-no c.args.text.now c.if-first-eq60.false c.if-first-eq34.false)
+pub returns-then-first-eq60-clause-value : goal.returns-then-first-eq60-clause-value
+returns-then-first-eq60-clause-value c =
+    c.behind_byte.ensures ∙ (ap one_more c.enclosed_len.ensures.value ∙ sym (header-angle c.args.first.byte (text_of c.args.first.rest) c.if-first-eq60.true))
 
-pub returns-in-len1-up-clause-greatest : goal.returns-in-len1-up-clause-greatest
-returns-in-len1-up-clause-greatest c = longest-from is_header_name c.args.text.now _ (returns-in-len1-up-clause-value c)
+pub returns-then-first-eq34-clause-value : goal.returns-then-first-eq34-clause-value
+returns-then-first-eq34-clause-value c =
+    c.behind_byte-then-first-eq34.ensures ∙ (ap one_more c.enclosed_len-then-first-eq34.ensures.value ∙ sym (header-quote c.args.first.byte (text_of c.args.first.rest) c.if-first-eq34.true))
 
-pub returns-in-len1-up-2-clause-greatest : goal.returns-in-len1-up-2-clause-greatest
-returns-in-len1-up-2-clause-greatest c = longest-from is_header_name c.args.text.now _ (returns-in-len1-up-2-clause-value c)
+pub returns-else-first-eq34-clause-value : goal.returns-else-first-eq34-clause-value
+returns-else-first-eq34-clause-value c = sym (header-no c.args.first.byte (text_of c.args.first.rest) c.if-first-eq60.false c.if-first-eq34.false)
+
+pub returns-then-first-eq60-clause-greatest : goal.returns-then-first-eq60-clause-greatest
+returns-then-first-eq60-clause-greatest c = longest-from is_header_name (text_from c.args.first) _ (returns-then-first-eq60-clause-value c)
+
+pub returns-then-first-eq34-clause-greatest : goal.returns-then-first-eq34-clause-greatest
+returns-then-first-eq34-clause-greatest c = longest-from is_header_name (text_from c.args.first) _ (returns-then-first-eq34-clause-value c)

@@ -1,19 +1,24 @@
-use Rattle.std.proofs.Common.{sym, ap, ◌∙◌, arith}
-use Rattle.std.proofs.lemmas.List.{take_rest}
+use Rattle.std.proofs.Common.{sym, ap, ◌∙◌, arith, length}
+use Rattle.hv_lexer.specs.Cursors.{text_of, text_from}
 use Rattle.hv_lexer.specs.Lengths.{one_more}
-use Rattle.hv_toks.specs.Lexical.{is_number}
+use Rattle.hv_toks.specs.Lexical.{is_number, longest, begins_with_digit}
+use Rattle.hv_lexer.proofs.Cursors.{text-bounded}
 use Rattle.hv_lexer.proofs.Longest.{longest-from, number-dot, number-digits}
 use Rattle.hv_lexer.proofs.category.number_len.Goals as goal
 
-pub returns-in-len1-up-clause-value : goal.returns-in-len1-up-clause-value
-returns-in-len1-up-clause-value c =
-    c.behind_byte.ensures ∙ (ap one_more (rw take_rest at c.digits_len.ensures.value) ∙ sym (number-dot c.args.text.now (omega (arith, c.in-len1-up.len_at_least)) c.if-first-eq46.true))
+pub behind_byte-requires : goal.behind_byte-requires
+behind_byte-requires c = let h = text-bounded c.args.first.rest in omega (arith, ap length c.in-Some.ensures.text)
 
-pub returns-in_default-clause-value : goal.returns-in_default-clause-value
-returns-in_default-clause-value c = c.digits_len-in_default.ensures.value ∙ sym (number-digits c.args.text.now c.if-first-eq46.false)
+pub returns-then-first-ne46-clause-value : goal.returns-then-first-ne46-clause-value
+returns-then-first-ne46-clause-value c = c.digits_len.ensures.value ∙ sym (number-digits c.args.first.byte (text_of c.args.first.rest) c.if-first-ne46.true)
 
-pub returns-in-len1-up-clause-greatest : goal.returns-in-len1-up-clause-greatest
-returns-in-len1-up-clause-greatest c = longest-from is_number c.args.text.now _ (returns-in-len1-up-clause-value c)
+pub returns-in-Some-clause-value : goal.returns-in-Some-clause-value
+returns-in-Some-clause-value c =
+    c.behind_byte.ensures ∙ (ap one_more (c.digits_len-in-Some.ensures.value ∙ ap (longest begins_with_digit) (sym c.in-Some.ensures.text))
+    ∙ sym (number-dot c.args.first.byte (text_of c.args.first.rest) c.if-first-ne46.false))
 
-pub returns-in_default-clause-greatest : goal.returns-in_default-clause-greatest
-returns-in_default-clause-greatest c = longest-from is_number c.args.text.now _ (returns-in_default-clause-value c)
+pub returns-then-first-ne46-clause-greatest : goal.returns-then-first-ne46-clause-greatest
+returns-then-first-ne46-clause-greatest c = longest-from is_number (text_from c.args.first) _ (returns-then-first-ne46-clause-value c)
+
+pub returns-in-Some-clause-greatest : goal.returns-in-Some-clause-greatest
+returns-in-Some-clause-greatest c = longest-from is_number (text_from c.args.first) _ (returns-in-Some-clause-value c)

@@ -1,13 +1,18 @@
-use Rattle.std.proofs.Common.{sym, ◌∙◌, arith}
-use Rattle.hv_lexer.proofs.Longest.{longest-number_rest, number-stop, number-end}
+use Rattle.std.proofs.Common.{◌≡◌, sym, ◌∙◌, arith}
+use Rattle.hv_lexer.specs.Cursors.{text_of}
+use Rattle.hv_lexer.proofs.Cursors.{text-bounded}
+use Rattle.hv_lexer.proofs.Longest.{number_rest_len, longest-number_rest, number-stop}
 use Rattle.hv_lexer.proofs.category.number_rest_len.Goals as goal
 
 pub returns-then-not-continues_number-clause-value : goal.returns-then-not-continues_number-clause-value
 returns-then-not-continues_number-clause-value c =
-    let stop = number-stop c.loop-i.exponent c.args.text.now c.loop-i.i c.loop-i-test.true (sym c.continues_number.ensures ∙ c.if-not-continues_number.true) in
-    sym (longest-number_rest _ c.args.text.now ∙ (c.loop-i.invariant ∙ (rw stop (omega arith))))
+    let stop : number_rest_len c.loop-next.exponent (text_of c.loop-next.rest) ≡ 0 =
+    rw c.in-Some.ensures.text (number-stop c.loop-next.exponent c.in-Some.next.byte (text_of c.in-Some.next.rest) (sym c.continues_number.ensures ∙ c.if-not-continues_number.true)) in
+    sym (longest-number_rest _ (text_of c.args.text) ∙ (c.loop-next.invariant.value ∙ (rw stop (omega arith))))
 
 pub returns-clause-value : goal.returns-clause-value
 returns-clause-value c =
-    let end = number-end c.loop-i.exponent c.args.text.now c.loop-i.i (omega arith) in
-    sym (longest-number_rest _ c.args.text.now ∙ (c.loop-i.invariant ∙ (rw end (omega arith))))
+    sym (longest-number_rest _ (text_of c.args.text) ∙ (c.loop-next.invariant.value ∙ (rw c.in_default.ensures.text (omega arith))))
+
+pub overflow_add-len : goal.overflow_add-len
+overflow_add-len c = let h = text-bounded c.args.text in omega arith

@@ -1,6 +1,13 @@
-use Rattle.std.proofs.Common.{◌≡◌, ◌+◌, false, drop}
+use Rattle.std.proofs.Common.{◌≡◌, ◌+◌, false, length}
+use Rattle.hv_lexer.specs.Cursors.{text_of}
 use Rattle.hv_lexer.proofs.Longest.{number_rest_len}
 use Rattle.hv_lexer.proofs.category.number_rest_len.Given as goal
 
-abbrev pub invariant-loop-i : goal.invariant-loop-i
-invariant-loop-i l = number_rest_len false l.text ≡ l.i + number_rest_len l.exponent (drop l.i l.text)
+abbrev pub invariant-loop-next : goal.invariant-loop-next
+invariant-loop-next l = record {
+  value : number_rest_len false (text_of l.text) ≡ l.len + number_rest_len l.exponent (text_of l.rest);
+  within : length (text_of l.text) ≡ l.len + length (text_of l.rest);
+}
+
+abbrev pub decreases-loop-next : goal.decreases-loop-next
+decreases-loop-next l = length (text_of l.rest)

@@ -1,12 +1,18 @@
-use Rattle.std.proofs.Common.{sym, ap, ◌∙◌, arith}
-use Rattle.std.proofs.lemmas.List.{take_rest}
+use Rattle.std.proofs.Common.{sym, ap, ◌∙◌, arith, length}
+use Rattle.hv_lexer.specs.Cursors.{text_of}
 use Rattle.hv_lexer.specs.Lengths.{one_more}
+use Rattle.hv_toks.specs.Lexical.{longest, is_quoted}
+use Rattle.hv_lexer.proofs.Cursors.{text-bounded}
 use Rattle.hv_lexer.proofs.Longest.{wide-yes, wide-no}
 use Rattle.hv_lexer.proofs.category.wide_quoted_len.Goals as goal
 
-pub returns-in-len1-up-clause-value : goal.returns-in-len1-up-clause-value
-returns-in-len1-up-clause-value c =
-    c.behind_byte.ensures ∙ (ap one_more (rw take_rest at c.quoted_len.ensures.value) ∙ sym (wide-yes c.args.quote c.args.text.now c.requires (omega (arith, c.in-len1-up.len_at_least)) c.if-first-eq76.true))
+pub behind_byte-requires : goal.behind_byte-requires
+behind_byte-requires c = let h = text-bounded c.args.first.rest in omega (arith, ap length c.in-Some.ensures.text)
 
-pub returns-in_default-clause-value : goal.returns-in_default-clause-value
-returns-in_default-clause-value c = c.quoted_len-in_default.ensures.value ∙ sym (wide-no c.args.quote c.args.text.now c.if-first-eq76.false)
+pub returns-then-first-ne76-clause-value : goal.returns-then-first-ne76-clause-value
+returns-then-first-ne76-clause-value c = c.quoted_len.ensures.value ∙ sym (wide-no c.args.quote c.args.first.byte (text_of c.args.first.rest) c.if-first-ne76.true)
+
+pub returns-in-Some-clause-value : goal.returns-in-Some-clause-value
+returns-in-Some-clause-value c =
+    c.behind_byte.ensures ∙ (ap one_more (c.quoted_len-in-Some.ensures.value ∙ ap (longest (is_quoted c.args.quote)) (sym c.in-Some.ensures.text))
+    ∙ sym (wide-yes c.args.quote c.args.first.byte (text_of c.args.first.rest) c.requires c.if-first-ne76.false))

@@ -1,8 +1,6 @@
-use Rattle.std.proofs.Common.{◌∙◌, sym, arith}
-use Rattle.hv_lexer.proofs.Gaps.{line-step}
+use Rattle.std.proofs.Common.{arith}
+use Rattle.hv_lexer.proofs.Cursors.{text-bounded}
 use Rattle.hv_lexer.proofs.gap.line_len.Goals as goal
 
-pub loop-len-preserved : goal.loop-len-preserved
-loop-len-preserved c =
-    let step = line-step c.args.text.now c.loop-len.len c.loop-len-test.true (sym c.ends_line.ensures ∙ c.if-not-ends_line.true) in
-    record { value = omega (arith, c.loop-len.invariant.value, step); within = omega arith }
+pub overflow_add-len : goal.overflow_add-len
+overflow_add-len c = let h = text-bounded c.args.text in omega arith

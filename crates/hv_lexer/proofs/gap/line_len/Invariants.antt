@@ -1,12 +1,13 @@
-use Rattle.std.proofs.Common.{◌≡◌, ◌+◌, ◌-◌, ◌≤◌, length, drop}
+use Rattle.std.proofs.Common.{◌≡◌, ◌+◌, length}
 use Rattle.hv_toks.specs.Cutting.{line_len}
+use Rattle.hv_lexer.specs.Cursors.{text_of}
 use Rattle.hv_lexer.proofs.gap.line_len.Given as goal
 
-abbrev pub invariant-loop-len : goal.invariant-loop-len
-invariant-loop-len l = record {
-  value : line_len l.text ≡ l.len + line_len (drop l.len l.text);
-  within : l.len ≤ length l.text;
+abbrev pub invariant-loop-next : goal.invariant-loop-next
+invariant-loop-next l = record {
+  value : line_len (text_of l.text) ≡ l.len + line_len (text_of l.rest);
+  within : length (text_of l.text) ≡ l.len + length (text_of l.rest);
 }
 
-abbrev pub decreases-loop-len : goal.decreases-loop-len
-decreases-loop-len l = length l.text - l.len
+abbrev pub decreases-loop-next : goal.decreases-loop-next
+decreases-loop-next l = length (text_of l.rest)

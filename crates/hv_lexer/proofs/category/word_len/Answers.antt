@@ -1,0 +1,6 @@
+use Rattle.std.proofs.Common.{arith}
+use Rattle.hv_lexer.proofs.Cursors.{text-bounded}
+use Rattle.hv_lexer.proofs.category.word_len.Goals as goal
+
+pub overflow_add-len : goal.overflow_add-len
+overflow_add-len c = let h = text-bounded c.args.text in omega arith
