@@ -1,4 +1,3 @@
-mod Examples
 pub mod Completeness
 pub mod Numbers
 pub mod Soundness

@@ -1,7 +1,7 @@
 -- Numbers that are read digit by digit.
 use Rattle.std.proofs.Common.{◌≡◌, ℕ, zero, suc, ◌+◌, ◌*◌, ◌^◌, ◌<◌, ◌≤◌, ◌&&◌, Bool, true, false, cond, List, [], ◌∷◌, refl, sym, ◌∙◌, ap, drop, length, get_or, drop-cons, add-one, Option, Some, None, arith}
 use Rattle.std.specs.Prelude.{option_and_then, nat_lt, ◌==◌}
-use Rattle.hv_ifexpr.specs.Constants.{continued, digit, number}
+use Rattle.hv_plain.specs.controlling.Constants.{continued, digit, number}
 
 cond_and_then : (b : Bool) (n base : ℕ) (rest : List ℕ) → cond b (continued base n rest) None ≡ option_and_then (λ m. continued base m rest) (cond b (Some n) None)
 cond_and_then true n base rest = refl

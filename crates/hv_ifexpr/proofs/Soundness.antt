@@ -3,18 +3,18 @@ use Rattle.std.proofs.Common.{◌≡◌, ℕ, zero, suc, ◌+◌, ◌-◌, ◌�
 use Rattle.std.proofs.lemmas.List.{append-nil}
 use Rattle.std.proofs.lemmas.Bool.Decides.{nat_tests}
 use Rattle.std.specs.Prelude.{nat_le, nat_eq, option_and_then}
-use Rattle.hv_ifexpr.specs.Grammar.{Tree, number, unary, binary, conditional, level, sign, Derives, a_number, a_parenthesized, a_unary, a_binary, a_conditional, a_higher, value}
+use Rattle.hv_plain.specs.controlling.Grammar.{Tree, number, unary, binary, conditional, level, sign, Derives, a_number, a_parenthesized, a_unary, a_binary, a_conditional, a_higher, value}
 use Rattle.hv_ifexpr.specs.Machine.{State, want, Reduced, reduced, reduce, step_at, run, step_wanting, step_having, wanting_sign, sign_of, after_operator, after_question, colon_at, close_at, end_at, finished}
-use Rattle.hv_ifexpr.specs.Values.{binary_value, unary_value, conditional_value}
+use Rattle.hv_plain.specs.controlling.Values.{binary_value, unary_value, conditional_value}
 use Rattle.hv_ifexpr.specs.declared.machine.Frame.{Frame}
 use Rattle.hv_ifexpr.specs.declared.machine.Frame.TheVariants.{Parenthesis, Unary, Binary, Then, Else}
-use Rattle.hv_ifexpr.specs.declared.operand.Operand.{Operand}
-use Rattle.hv_ifexpr.specs.declared.operator.Binary.{Binary as BinaryOperator}
-use Rattle.hv_ifexpr.specs.declared.operator.Binary.TheVariants.{Add, Subtract}
-use Rattle.hv_ifexpr.specs.declared.operator.Unary.{Unary as UnaryOperator}
-use Rattle.hv_ifexpr.specs.declared.operator.Unary.TheVariants.{Plus, Minus, Complement, Not}
-use Rattle.hv_ifexpr.specs.declared.symbol.Symbol.{Symbol}
-use Rattle.hv_ifexpr.specs.declared.symbol.Symbol.TheVariants.{Number, Operator, Open, Close, Question, Colon, Other, Complement as ComplementSign, Not as NotSign}
+use Rattle.hv_plain.specs.declared.controlling.Operand.{Operand}
+use Rattle.hv_plain.specs.declared.controlling.Binary.{Binary as BinaryOperator}
+use Rattle.hv_plain.specs.declared.controlling.Binary.TheVariants.{Add, Subtract}
+use Rattle.hv_plain.specs.declared.controlling.Unary.{Unary as UnaryOperator}
+use Rattle.hv_plain.specs.declared.controlling.Unary.TheVariants.{Plus, Minus, Complement, Not}
+use Rattle.hv_plain.specs.declared.controlling.Symbol.{Symbol}
+use Rattle.hv_plain.specs.declared.controlling.Symbol.TheVariants.{Number, Operator, Open, Close, Question, Colon, Other, Complement as ComplementSign, Not as NotSign}
 use Rattle.hv_ifexpr.proofs.Completeness.{level-pos, level-most}
 
 -- an expression of the level may stand behind what stands open

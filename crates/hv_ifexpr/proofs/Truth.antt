@@ -3,12 +3,12 @@ use Rattle.std.proofs.Common.{◌≡◌, ℕ, Bool, List, [], refl, sym, ap, ◌
 use Rattle.std.specs.Prelude.{option_and_then, IfOk, IfErr, Result}
 use Rattle.hv_toks.specs.declared.token.PpTok.{PpTok}
 use Rattle.hv_ifexpr.specs.Answer.{decided, decided_by}
-use Rattle.hv_ifexpr.specs.Grammar.{Tree, IsExpression, IsTruth, symbols, truth, truth_of, value}
+use Rattle.hv_plain.specs.controlling.Grammar.{Tree, IsExpression, IsTruth, symbols, truth, truth_of, value}
 use Rattle.hv_ifexpr.specs.Machine.{run, want}
-use Rattle.hv_ifexpr.specs.Values.{is_nonzero}
+use Rattle.hv_plain.specs.controlling.Values.{is_nonzero}
 use Rattle.hv_ifexpr.specs.declared.fault.IfFault.{IfFault}
 use Rattle.hv_ifexpr.specs.declared.fault.IfFault.TheVariants.{Bad}
-use Rattle.hv_ifexpr.specs.declared.operand.Operand.{Operand}
+use Rattle.hv_plain.specs.declared.controlling.Operand.{Operand}
 use Rattle.hv_ifexpr.proofs.Completeness.{run_derived}
 use Rattle.hv_ifexpr.proofs.Soundness.{Derived, derived_run}
 

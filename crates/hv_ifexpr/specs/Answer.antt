@@ -1,9 +1,9 @@
 -- The answer to what the machine makes of an expression.
 use Rattle.std.specs.Prelude.{ℕ, Bool, Option, Some, None, Result, Ok, Err}
-use Rattle.hv_ifexpr.specs.Values.{is_nonzero}
+use Rattle.hv_plain.specs.controlling.Values.{is_nonzero}
 use Rattle.hv_ifexpr.specs.declared.fault.IfFault.{IfFault}
 use Rattle.hv_ifexpr.specs.declared.fault.IfFault.TheVariants.{Bad}
-use Rattle.hv_ifexpr.specs.declared.operand.Operand.{Operand}
+use Rattle.hv_plain.specs.declared.controlling.Operand.{Operand}
 
 abbrev pub decided_by : Option ℕ → Result Bool IfFault
 decided_by None = Err Bad

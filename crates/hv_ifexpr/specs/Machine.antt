@@ -1,16 +1,16 @@
 -- The machine that evaluates controlling expressions: it goes over the symbols once, and keeps what is not ended yet.
 use Rattle.std.specs.Prelude.{◌≡◌, ℕ, Bool, true, false, cond, nat_le, nat_eq, List, [], ◌∷◌, Option, Some, None, option_and_then}
-use Rattle.hv_ifexpr.specs.Grammar.{level}
-use Rattle.hv_ifexpr.specs.Values.{binary_value, unary_value, conditional_value}
+use Rattle.hv_plain.specs.controlling.Grammar.{level}
+use Rattle.hv_plain.specs.controlling.Values.{binary_value, unary_value, conditional_value}
 use Rattle.hv_ifexpr.specs.declared.machine.Frame.{Frame}
 use Rattle.hv_ifexpr.specs.declared.machine.Frame.TheVariants.{Parenthesis, Unary, Binary, Then, Else}
-use Rattle.hv_ifexpr.specs.declared.operand.Operand.{Operand}
-use Rattle.hv_ifexpr.specs.declared.operator.Binary.{Binary as BinaryOperator}
-use Rattle.hv_ifexpr.specs.declared.operator.Binary.TheVariants.{Add, Subtract}
-use Rattle.hv_ifexpr.specs.declared.operator.Unary.{Unary as UnaryOperator}
-use Rattle.hv_ifexpr.specs.declared.operator.Unary.TheVariants.{Plus, Minus, Complement, Not}
-use Rattle.hv_ifexpr.specs.declared.symbol.Symbol.{Symbol}
-use Rattle.hv_ifexpr.specs.declared.symbol.Symbol.TheVariants.{Number, Operator, Open, Close, Question, Colon, Complement as ComplementSign, Not as NotSign}
+use Rattle.hv_plain.specs.declared.controlling.Operand.{Operand}
+use Rattle.hv_plain.specs.declared.controlling.Binary.{Binary as BinaryOperator}
+use Rattle.hv_plain.specs.declared.controlling.Binary.TheVariants.{Add, Subtract}
+use Rattle.hv_plain.specs.declared.controlling.Unary.{Unary as UnaryOperator}
+use Rattle.hv_plain.specs.declared.controlling.Unary.TheVariants.{Plus, Minus, Complement, Not}
+use Rattle.hv_plain.specs.declared.controlling.Symbol.{Symbol}
+use Rattle.hv_plain.specs.declared.controlling.Symbol.TheVariants.{Number, Operator, Open, Close, Question, Colon, Complement as ComplementSign, Not as NotSign}
 
 -- what stands open, the innermost first, and the operand behind it, if one is complete
 pub record State : Type 0 where

@@ -1,7 +1,7 @@
 //! The truth of a controlling expression.
 ghost use Rattle.std.specs.Prelude.{◌≡◌, Some, None, IfErr, IfOk};
 ghost use Rattle.hv_ifexpr.specs.Answer.{decided};
-ghost use Rattle.hv_ifexpr.specs.Grammar.{IsExpression, IsTruth, Tree, truth};
+ghost use Rattle.hv_plain.specs.controlling.Grammar.{IsExpression, IsTruth, Tree, truth};
 ghost use Rattle.hv_ifexpr.specs.declared.fault.IfFault.TheVariants.{Bad};
 
 use crate::reader::read;

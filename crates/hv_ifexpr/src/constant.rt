@@ -2,18 +2,9 @@
 ghost use Rattle.std.specs.Prelude.{◌≡◌, ◌<◌, ◌≤◌, ◌∷◌, [], Some, length};
 ghost use Rattle.std.specs.List.{list_any, position_or_len};
 ghost use Rattle.std.specs.Str.{bytes_eq};
-ghost use Rattle.hv_ifexpr.specs.Constants.{based as based_of, behind_zero as behind_zero_of, byte_value as byte_value_of, char_constant as char_constant_of, char_value as char_value_of, continued, decimal as decimal_of, digit as digit_of, escape as escape_of, integer_constant as integer_constant_of, is_suffix_letter as letter_test, number as number_of, quoted as quoted_of, simple_escape as simple_escape_of, simple_or_octal as simple_or_octal_of, unsuffixed as unsuffixed_of, unsuffixed_len as unsuffixed_len_of, with_suffix as with_suffix_of};
+ghost use Rattle.hv_plain.specs.controlling.Constants.{based as based_of, behind_zero as behind_zero_of, byte_value as byte_value_of, char_constant as char_constant_of, char_value as char_value_of, continued, decimal as decimal_of, digit as digit_of, escape as escape_of, integer_constant as integer_constant_of, is_suffix_letter as letter_test, number as number_of, quoted as quoted_of, simple_escape as simple_escape_of, simple_or_octal as simple_or_octal_of, unsuffixed as unsuffixed_of, unsuffixed_len as unsuffixed_len_of, with_suffix as with_suffix_of};
 
-use crate::Operand;
-
-/// The suffixes of a constant of a signed type, and none.
-const SIGNED_SUFFIXES: [&str; 5] = ["", "l", "L", "ll", "LL"];
-
-/// The suffixes of a constant of an unsigned type.
-const UNSIGNED_SUFFIXES: [&str; 18] = [
-    "u", "U", "ul", "uL", "Ul", "UL", "lu", "lU", "Lu", "LU", "ull", "uLL", "Ull", "ULL", "llu",
-    "llU", "LLu", "LLU",
-];
+use hv_plain::{Operand, SIGNED_SUFFIXES, UNSIGNED_SUFFIXES};
 
 /// The value of a digit; 16 where the byte is none.
 fn digit(byte: u8) -> u64

@@ -6,16 +6,13 @@ mod constant;
 mod fault;
 mod machine;
 mod operand;
-mod operator;
 mod reader;
 mod stack;
 mod symbol;
 
 pub use answer::evaluate;
 pub use fault::IfFault;
-pub use operand::Operand;
-pub use operator::{Binary, Unary};
-pub use symbol::Symbol;
+pub use hv_plain::{Binary, Operand, Symbol, Unary};
 
 #[cfg(test)]
 mod tests;

@@ -1,6 +1,6 @@
 //! The machine that evaluates controlling expressions.
 ghost use Rattle.std.specs.Prelude.{◌≡◌, [], ◌∷◌, None, IfOk, OnOk, MatchOption};
-ghost use Rattle.hv_ifexpr.specs.Grammar.{level as level_of};
+ghost use Rattle.hv_plain.specs.controlling.Grammar.{level as level_of};
 ghost use Rattle.hv_ifexpr.specs.Machine.{applied, ends as ends_test, sign_of};
 
 use crate::operand::{apply_binary, apply_conditional, apply_unary};

@@ -1,17 +1,8 @@
 //! The values of operands and operators.
 ghost use Rattle.std.specs.Prelude.{◌≡◌, ◌||◌, ◌<◌};
-ghost use Rattle.hv_ifexpr.specs.Values.{binary_value, bit_of, bits_of, both, chosen, common, conditional_value, is_nonzero, is_not as not_test, is_truth as truth_test, is_unsigned_at as unsigned_test, left_shifted, less as less_test, quotient, remainder as remainder_of, right_shifted, truth as truth_of, unary_bits, unary_value};
+ghost use Rattle.hv_plain.specs.controlling.Values.{binary_value, bit_of, bits_of, both, chosen, common, conditional_value, is_nonzero, is_not as not_test, is_truth as truth_test, is_unsigned_at as unsigned_test, left_shifted, less as less_test, quotient, remainder as remainder_of, right_shifted, truth as truth_of, unary_bits, unary_value};
 
-use crate::{Binary, Unary};
-
-/// What an expression of a controlling expression comes to.
-#[derive(Clone, Copy, Debug, PartialEq, Eq)]
-pub struct Operand {
-    /// Whether its type is unsigned.
-    pub is_unsigned: bool,
-    /// Its 64 bits, or `None` where evaluating it has no value.
-    pub bits: Option<u64>,
-}
+use hv_plain::{Binary, Operand, Unary};
 
 fn bit(truth: bool) -> u64
     ensures { result ≡ bit_of truth }

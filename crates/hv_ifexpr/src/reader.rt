@@ -1,7 +1,7 @@
 //! Reading a controlling expression.
 ghost use Rattle.std.specs.Prelude.{◌≡◌, [], ◌∷◌, None, Some, IfOk, OnOk};
 ghost use Rattle.hv_ifexpr.specs.Machine.{IsTaken, after_close, after_colon, finished, reduce, run, step, step_having, step_wanting, want};
-ghost use Rattle.hv_ifexpr.specs.Grammar.{symbols};
+ghost use Rattle.hv_plain.specs.controlling.Grammar.{symbols};
 ghost use Rattle.hv_ifexpr.specs.States.{state_of};
 
 use crate::machine::{Frame, level, unary_of};

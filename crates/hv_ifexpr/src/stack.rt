@@ -1,7 +1,7 @@
 //! What stands open in a controlling expression.
 ghost use Rattle.std.specs.Prelude.{◌≡◌, [], ◌∷◌, true, IfNone, IfSome, OnOk};
 ghost use Rattle.hv_ifexpr.specs.Machine.{ends as ends_test, reduce as reduce_to, reduced};
-ghost use Rattle.hv_ifexpr.specs.declared.operand.Operand.{Operand as OperandOf};
+ghost use Rattle.hv_plain.specs.declared.controlling.Operand.{Operand as OperandOf};
 
 use crate::Operand;
 use crate::machine::{Frame, apply, ends};

@@ -1,27 +1,10 @@
 //! What a token is to the grammar of controlling expressions.
 ghost use Rattle.std.specs.Prelude.{◌≡◌};
-ghost use Rattle.hv_ifexpr.specs.Symbols.{constant as constant_of, double as double_of, doubled as doubled_of, identifier as identifier_of, punctuator as punctuator_of, single as single_of, symbol_of, with_equals as with_equals_of};
+ghost use Rattle.hv_plain.specs.controlling.Symbols.{constant as constant_of, double as double_of, doubled as doubled_of, identifier as identifier_of, punctuator as punctuator_of, single as single_of, symbol_of, with_equals as with_equals_of};
 
 use crate::constant::{char_constant, integer_constant};
-use crate::{Binary, Operand};
+use hv_plain::{Binary, Operand, Symbol};
 use hv_toks::{PpKind, PpTok};
-
-/// What a token is to the grammar of controlling expressions.
-#[derive(Clone, Copy, Debug, PartialEq, Eq)]
-pub enum Symbol {
-    /// A constant or an identifier, and its value.
-    Number(Operand),
-    /// A binary operator; two of them are unary operators too.
-    Operator(Binary),
-    Complement,
-    Not,
-    Open,
-    Close,
-    Question,
-    Colon,
-    /// What stands in no expression.
-    Other,
-}
 
 /// A name that is no macro's: it is replaced by 0, but `defined` stands in no expression.
 fn identifier(name: &[u8]) -> Symbol

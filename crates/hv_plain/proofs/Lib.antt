@@ -1,4 +1,5 @@
 pub mod ByteNumerals
+mod ControllingRows
 pub mod OptionVariables
 pub mod Places
 mod Rows

@@ -4,3 +4,4 @@ pub mod Program
 pub mod Run
 pub mod SmallReader
 pub mod Source
+pub mod controlling

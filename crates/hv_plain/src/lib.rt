@@ -1,9 +1,11 @@
-//! The definitions that the promises of Hercules are stated by, for small sources and small programs,
-//! and the plain functions that compute them.
+//! The definitions that the promises of Hercules are stated by, for controlling expressions, small sources
+//! and small programs, and the plain functions that compute them.
 #![tactic(auto)]
 
+mod controlling;
 mod small;
 
+pub use controlling::{Binary, Operand, SIGNED_SUFFIXES, Symbol, UNSIGNED_SUFFIXES, Unary};
 pub use small::small_run;
 
 #[cfg(test)]

@@ -1,5 +1,5 @@
 use Rattle.std.proofs.Common.{◌≡◌, drop}
-use Rattle.hv_ifexpr.specs.Constants.{continued}
+use Rattle.hv_plain.specs.controlling.Constants.{continued}
 use Rattle.hv_ifexpr.proofs.constant.number.Given as goal
 
 abbrev pub invariant-loop-byte : goal.invariant-loop-byte

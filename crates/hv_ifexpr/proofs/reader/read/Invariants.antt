@@ -1,5 +1,5 @@
 use Rattle.std.proofs.Common.{◌≡◌, [], drop}
-use Rattle.hv_ifexpr.specs.Grammar.{symbols}
+use Rattle.hv_plain.specs.controlling.Grammar.{symbols}
 use Rattle.hv_ifexpr.specs.Machine.{run, want}
 use Rattle.hv_ifexpr.specs.States.{state_of}
 use Rattle.hv_ifexpr.proofs.reader.read.Given as goal

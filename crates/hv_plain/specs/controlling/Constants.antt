@@ -3,9 +3,9 @@
 use Rattle.std.specs.Prelude.{ℕ, ◌+◌, ◌-◌, ◌*◌, ◌^◌, Bool, true, false, cond, ◌&&◌, ◌||◌, ◌==◌, nat_le, nat_lt, List, [], ◌∷◌, Option, Some, None, option_and_then, take, drop, length, slice_index}
 use Rattle.std.specs.List.{list_any, position_or_len}
 use Rattle.std.specs.Str.{bytes_eq}
-use Rattle.hv_ifexpr.specs.declared.operand.Operand.{Operand}
-use Rattle.hv_ifexpr.specs.declared.constant.TheConstants.{SIGNED_SUFFIXES, UNSIGNED_SUFFIXES}
-use Rattle.hv_ifexpr.specs.Values.{operand}
+use Rattle.hv_plain.specs.declared.controlling.Operand.{Operand}
+use Rattle.hv_plain.specs.declared.controlling.TheConstants.{SIGNED_SUFFIXES, UNSIGNED_SUFFIXES}
+use Rattle.hv_plain.specs.controlling.Values.{operand}
 
 -- the value of a digit; 16 where the byte is none
 abbrev pub digit : ℕ → ℕ

@@ -3,15 +3,15 @@
 -- which is replaced before.
 use Rattle.std.specs.Prelude.{ℕ, suc, ◌≡◌, Bool, List, [], ◌∷◌, ◌++◌, map, Option, Some, option_and_then}
 use Rattle.hv_toks.specs.declared.token.PpTok.{PpTok}
-use Rattle.hv_ifexpr.specs.Symbols.{symbol_of}
-use Rattle.hv_ifexpr.specs.Values.{binary_value, unary_value, conditional_value, is_nonzero}
-use Rattle.hv_ifexpr.specs.declared.operand.Operand.{Operand}
-use Rattle.hv_ifexpr.specs.declared.operator.Binary.{Binary}
-use Rattle.hv_ifexpr.specs.declared.operator.Binary.TheVariants.{Multiply, Divide, Remainder, Add, Subtract, ShiftLeft, ShiftRight, Less, Greater, LessEqual, GreaterEqual, Equal, NotEqual, And, ExclusiveOr, Or, LogicalAnd, LogicalOr}
-use Rattle.hv_ifexpr.specs.declared.operator.Unary.{Unary}
-use Rattle.hv_ifexpr.specs.declared.operator.Unary.TheVariants.{Plus, Minus, Complement, Not}
-use Rattle.hv_ifexpr.specs.declared.symbol.Symbol.{Symbol}
-use Rattle.hv_ifexpr.specs.declared.symbol.Symbol.TheVariants.{Number, Operator, Open, Close, Question, Colon, Complement as ComplementSign, Not as NotSign}
+use Rattle.hv_plain.specs.controlling.Symbols.{symbol_of}
+use Rattle.hv_plain.specs.controlling.Values.{binary_value, unary_value, conditional_value, is_nonzero}
+use Rattle.hv_plain.specs.declared.controlling.Operand.{Operand}
+use Rattle.hv_plain.specs.declared.controlling.Binary.{Binary}
+use Rattle.hv_plain.specs.declared.controlling.Binary.TheVariants.{Multiply, Divide, Remainder, Add, Subtract, ShiftLeft, ShiftRight, Less, Greater, LessEqual, GreaterEqual, Equal, NotEqual, And, ExclusiveOr, Or, LogicalAnd, LogicalOr}
+use Rattle.hv_plain.specs.declared.controlling.Unary.{Unary}
+use Rattle.hv_plain.specs.declared.controlling.Unary.TheVariants.{Plus, Minus, Complement, Not}
+use Rattle.hv_plain.specs.declared.controlling.Symbol.{Symbol}
+use Rattle.hv_plain.specs.declared.controlling.Symbol.TheVariants.{Number, Operator, Open, Close, Question, Colon, Complement as ComplementSign, Not as NotSign}
 
 pub data Tree : Type 0 where
   number : Operand → Tree

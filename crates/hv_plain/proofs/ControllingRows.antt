@@ -1,13 +1,13 @@
 -- Constants, values and a derivation.
 use Rattle.std.proofs.Common.{◌≡◌, ℕ, ◌-◌, ◌^◌, true, false, [], ◌∷◌, refl, Some, None}
 use Rattle.std.specs.Prelude.{codes}
-use Rattle.hv_ifexpr.specs.Constants.{integer_constant, char_constant}
-use Rattle.hv_ifexpr.specs.Grammar.{number, binary, conditional, Derives, a_number, a_binary, a_higher, truth, value}
-use Rattle.hv_ifexpr.specs.Symbols.{punctuator}
-use Rattle.hv_ifexpr.specs.Values.{operand}
-use Rattle.hv_ifexpr.specs.declared.operand.Operand.{Operand}
-use Rattle.hv_ifexpr.specs.declared.operator.Binary.TheVariants.{Divide, Subtract, ShiftLeft, ShiftRight, Greater, LessEqual, LogicalOr}
-use Rattle.hv_ifexpr.specs.declared.symbol.Symbol.TheVariants.{Number, Operator, Other}
+use Rattle.hv_plain.specs.controlling.Constants.{integer_constant, char_constant}
+use Rattle.hv_plain.specs.controlling.Grammar.{number, binary, conditional, Derives, a_number, a_binary, a_higher, truth, value}
+use Rattle.hv_plain.specs.controlling.Symbols.{punctuator}
+use Rattle.hv_plain.specs.controlling.Values.{operand}
+use Rattle.hv_plain.specs.declared.controlling.Operand.{Operand}
+use Rattle.hv_plain.specs.declared.controlling.Binary.TheVariants.{Divide, Subtract, ShiftLeft, ShiftRight, Greater, LessEqual, LogicalOr}
+use Rattle.hv_plain.specs.declared.controlling.Symbol.TheVariants.{Number, Operator, Other}
 
 abbrev int : ℕ → Operand
 int n = operand false (Some n)

@@ -2,11 +2,11 @@
 -- The value of a signed operand is that of its bits in two's complement; signed results wrap.
 use Rattle.std.specs.Prelude.{ℕ, ◌+◌, ◌-◌, ◌*◌, ◌/◌, ◌%◌, ◌^◌, Bool, true, false, cond, not, ◌||◌, nat_eq, nat_lt, Option, Some, None, option_and_then, ℤ, int_lt, int_div, int_rem, bit_and, bit_or, bit_xor}
 use Rattle.std.specs.Int.{cast_signed, cast_unsigned, int_shr, bit_not, w64}
-use Rattle.hv_ifexpr.specs.declared.operand.Operand.{Operand}
-use Rattle.hv_ifexpr.specs.declared.operator.Binary.{Binary}
-use Rattle.hv_ifexpr.specs.declared.operator.Binary.TheVariants.{Multiply, Divide, Remainder, Add, Subtract, ShiftLeft, ShiftRight, Less, Greater, LessEqual, GreaterEqual, Equal, NotEqual, And, ExclusiveOr, Or, LogicalAnd, LogicalOr}
-use Rattle.hv_ifexpr.specs.declared.operator.Unary.{Unary}
-use Rattle.hv_ifexpr.specs.declared.operator.Unary.TheVariants.{Plus, Minus, Complement, Not}
+use Rattle.hv_plain.specs.declared.controlling.Operand.{Operand}
+use Rattle.hv_plain.specs.declared.controlling.Binary.{Binary}
+use Rattle.hv_plain.specs.declared.controlling.Binary.TheVariants.{Multiply, Divide, Remainder, Add, Subtract, ShiftLeft, ShiftRight, Less, Greater, LessEqual, GreaterEqual, Equal, NotEqual, And, ExclusiveOr, Or, LogicalAnd, LogicalOr}
+use Rattle.hv_plain.specs.declared.controlling.Unary.{Unary}
+use Rattle.hv_plain.specs.declared.controlling.Unary.TheVariants.{Plus, Minus, Complement, Not}
 
 -- what an expression comes to: its bits, or none where evaluating it has no value, and its signedness,
 -- which it has in either case

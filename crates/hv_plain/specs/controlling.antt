@@ -1,0 +1,4 @@
+pub mod Constants
+pub mod Grammar
+pub mod Symbols
+pub mod Values

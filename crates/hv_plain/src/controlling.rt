@@ -1,0 +1,68 @@
+//! What controlling expressions are made of (ISO/IEC 9899:1999, 6.6, 6.10.1).
+
+/// A binary operator (ISO/IEC 9899:1999, 6.5.5 to 6.5.14).
+#[derive(Clone, Copy, Debug, PartialEq, Eq)]
+pub enum Binary {
+    Multiply,
+    Divide,
+    Remainder,
+    Add,
+    Subtract,
+    ShiftLeft,
+    ShiftRight,
+    Less,
+    Greater,
+    LessEqual,
+    GreaterEqual,
+    Equal,
+    NotEqual,
+    And,
+    ExclusiveOr,
+    Or,
+    LogicalAnd,
+    LogicalOr,
+}
+
+/// A unary operator (ISO/IEC 9899:1999, 6.5.3.3).
+#[derive(Clone, Copy, Debug, PartialEq, Eq)]
+pub enum Unary {
+    Plus,
+    Minus,
+    Complement,
+    Not,
+}
+
+/// What an expression of a controlling expression comes to.
+#[derive(Clone, Copy, Debug, PartialEq, Eq)]
+pub struct Operand {
+    /// Whether its type is unsigned.
+    pub is_unsigned: bool,
+    /// Its 64 bits, or `None` where evaluating it has no value.
+    pub bits: Option<u64>,
+}
+
+/// What a token is to the grammar of controlling expressions.
+#[derive(Clone, Copy, Debug, PartialEq, Eq)]
+pub enum Symbol {
+    /// A constant or an identifier, and its value.
+    Number(Operand),
+    /// A binary operator; two of them are unary operators too.
+    Operator(Binary),
+    Complement,
+    Not,
+    Open,
+    Close,
+    Question,
+    Colon,
+    /// What stands in no expression.
+    Other,
+}
+
+/// The suffixes of a constant of a signed type, and none.
+pub const SIGNED_SUFFIXES: [&str; 5] = ["", "l", "L", "ll", "LL"];
+
+/// The suffixes of a constant of an unsigned type.
+pub const UNSIGNED_SUFFIXES: [&str; 18] = [
+    "u", "U", "ul", "uL", "Ul", "UL", "lu", "lU", "Lu", "LU", "ull", "uLL", "Ull", "ULL", "llu",
+    "llU", "LLu", "LLU",
+];
