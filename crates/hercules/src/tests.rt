@@ -216,7 +216,8 @@ const EITHER_A_OR_B: &str = "option A\noption B\nrule A => !B\nrule A || B\n";
 
 #[test]
 fn statements_without_a_valid_configuration_are_left_out(rt: HostRuntime) -> Result<(), Fail> {
-    let body = "#ifdef A\n#ifdef B\nputchar(49);\n#else\nputchar(50);\n#endif\n#else\n#ifdef B\nputchar(51);\n#else\nputchar(52);\n#endif\n#endif\nputchar(53);\n";
+    let body =
+        "#ifdef A\n#ifdef B\nputchar(49);\n#else\nputchar(50);\n#endif\n#else\n#ifdef B\nputchar(51);\n#else\nputchar(52);\n#endif\n#endif\nputchar(53);\n";
     let ended = encode(
         rt.alloc(),
         EITHER_A_OR_B,
