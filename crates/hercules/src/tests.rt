@@ -2,6 +2,8 @@ ghost use Rattle.std.specs.Prelude.{◌<◌};
 
 use hv_base::{Config, List, Text};
 use hv_encode::hercules;
+use hv_ifexpr::{IfFault, evaluate};
+use hv_lexer::lex;
 use hv_model::{Model, read_model};
 use hv_outside::{MemFiles, MemSink, SafeSink, SafeSource};
 use hv_plain::small_run;
@@ -417,5 +419,40 @@ fn a_write_fails(rt: HostRuntime) -> Result<(), Fail> {
     assert_eq!(rt; status, 0);
     assert_eq!(rt; out.bytes(), whole.out.bytes());
     assert_eq!(rt; err.bytes().len(), 0);
+    Ok(())
+}
+
+/// The truth of a controlling expression, cut from its text, or `None` where it has none.
+fn truth_of(alloc: Global, text: &str) -> Result<Option<bool>, Fail> {
+    let Ok(tokens) = lex(alloc, 0, text.as_bytes()) else {
+        return Err("the text is not cut".into());
+    };
+    match evaluate(alloc, tokens.as_slice()) {
+        Ok(truth) => Ok(Some(truth)),
+        Err(IfFault::Bad) => Ok(None),
+        Err(IfFault::Memory) => Err("want of memory".into()),
+    }
+}
+
+#[test]
+fn controlling_expressions_are_cut_and_evaluated(rt: HostRuntime) -> Result<(), Fail> {
+    let table = [
+        ("1 || 1/0", Some(true)),
+        ("1/0", None),
+        ("1 << 64", None),
+        ("-1 > 0u", Some(true)),
+        ("0&&1/0", Some(false)),
+        ("1?2:3/0", Some(true)),
+        ("'a'==97&&0x10==020", Some(true)),
+        ("1+\\\n1==2/* two */", Some(true)),
+        ("a+++b", None),
+        ("a+ +b", Some(false)),
+        ("defined a", None),
+        ("1e+5", None),
+        ("", None),
+    ];
+    for (text, truth) in table {
+        assert_eq!(rt; truth_of(rt.alloc(), text)?, truth, "at {text:?}");
+    }
     Ok(())
 }
