@@ -1,14 +1,11 @@
 -- What reading a line rests on.
-use Rattle.std.proofs.Common.{◌≡◌, ◌≢◌, ℕ, ◌+◌, ◌<◌, ◌≤◌, true, false, List, [], ◌++◌, cond, nat_lt, sym, ◌∙◌, ap, arith, length, get_or, codes, decimal, Some, None, Option, IfSome, IfNone, Contains, Result, Ok, Err, eqb, take, drop, ◌-◌}
+use Rattle.std.proofs.Common.{◌≡◌, ◌≢◌, ℕ, ◌+◌, ◌<◌, ◌≤◌, true, false, List, [], ◌++◌, cond, nat_lt, sym, ◌∙◌, ap, arith, length, get_or, codes, decimal, Some, None, Option, IfSome, IfNone, Contains, eqb, take, drop, ◌-◌}
 use denote.Ref.{Bor}
 use Rattle.std.specs.Cmp.Lexicographic.{pointwise}
-use Rattle.std.specs.Str.Parse.{ParsesUnsigned}
 use Rattle.std.specs.List.{position, position_or_len}
-use Rattle.std.specs.Str.{bytes_eq, IsUtf8}
+use Rattle.std.specs.Str.{bytes_eq}
 use Rattle.std.proofs.lemmas.Bool.Decides.{nat_tests, Decides-eqb}
 use Rattle.std.proofs.lemmas.Slice.Eq.{bytes_eq-Decides, strip_prefix_is, strip_suffix_is}
-use Rattle.std.proofs.lemmas.Fmt.{IsAscii-decimal, parse-decimal}
-use Rattle.std.proofs.lemmas.Str.{IsUtf8-from_ascii}
 use Rattle.std.proofs.lemmas.List.{append_cancel_left}
 use Rattle.std.proofs.lemmas.List.Quantifiers.{position-Some}
 use Rattle.std.proofs.lemmas.List.Sums.{fails_before_first}
@@ -26,17 +23,6 @@ front_is s p x h = strip_prefix_is Decides-eqb s p (Some x) h
 
 pub back_is : (s p : List ℕ) (x : Bor (List ℕ)) → (pointwise eqb (drop (length s - length p) s) p ≡ true) × (x.now ≡ take (length s - length p) s) × (length x.now + length p ≡ length s) → s ≡ x.now ++ p
 back_is s p x h = strip_suffix_is Decides-eqb s p (Some x) h
-
-pub parsed : (n value : ℕ) (text : List ℕ) → n < 256 → text ≡ decimal n → ParsesUnsigned {E = ℕ} 8 10 text (Ok value) → value ≡ n
-parsed n value text small e h =
-    let is : ◌≡◌ {A = Result ℕ ℕ} (Ok value) (Ok n) = parse-decimal 8 n text (Ok value) (omega arith) (omega arith) e h in cc
-
-pub not_parsed : (n : ℕ) (text : List ℕ) → n < 256 → text ≡ decimal n → ParsesUnsigned {E = ℕ} 8 10 text (Err 0) → ⊥
-not_parsed n text small e h =
-    let is : ◌≡◌ {A = Result ℕ ℕ} (Err 0) (Ok n) = parse-decimal 8 n text (Err 0) (omega arith) (omega arith) e h in cc
-
-pub decimal_is_text : (n : ℕ) (text : List ℕ) → n < 256 → text ≡ decimal n → IsUtf8 text
-decimal_is_text n text small e = let P : List ℕ → Type 0 = λ t. IsUtf8 t in rw e (IsUtf8-from_ascii (decimal n) (IsAscii-decimal n (omega arith)))
 
 pub found : (names : List (List ℕ)) (name : List ℕ) (option : ℕ) → Some option ≡ position (bytes_eq name) names → IsOption names option × (name ≡ name_at names option)
 found names name option e =

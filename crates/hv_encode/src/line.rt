@@ -3,6 +3,7 @@ ghost use Rattle.hv_plain.specs.Source.{Line as PlainLine, put, spelled, IsLine}
 ghost use Rattle.hv_encode.specs.Lines.{name_at, plain, IsOption, IsKnown};
 
 use hv_model::Model;
+use hv_plain::byte_of;
 
 /// A line of the body of a small source. Options go by their numbers in the model.
 #[derive(Clone, Copy, Debug, PartialEq, Eq)]
@@ -12,25 +13,6 @@ pub enum Line {
     IfNotDefined(usize),
     Else,
     EndIf,
-}
-
-/// The byte that the text is the number of, in decimal digits without a leading zero.
-fn byte_of(text: &[u8]) -> Option<u8>
-    ensures some { IfSome result (λ n. (n < 256) × (text.now ≡ decimal n)) }
-    ensures none { IfNone result ((n : ℕ) → n < 256 → text.now ≢ decimal n) }
-{
-    let Ok(digits) = str::from_utf8(text) else {
-        return None;
-    };
-    let Ok(value) = digits.parse::<u8>() else {
-        return None;
-    };
-    let mut buffer = itoa::Buffer::new();
-    if buffer.format(value).as_bytes() == text {
-        Some(value)
-    } else {
-        None
-    }
 }
 
 /// The byte that the line puts.

@@ -2,21 +2,7 @@ ghost use Rattle.std.specs.Prelude.{◌≡◌, reverse};
 ghost use Rattle.hv_model.specs.Bytes.{without_front_blanks as without_front};
 ghost use Rattle.hv_plain.specs.Bytes.{trimmed as trimmed_text};
 
-use hv_model::is_blank;
-
-/// The text without the blanks at its front.
-fn without_front_blanks(text: &[u8]) -> &[u8]
-    ensures { result.now ≡ without_front text.now }
-{
-    let mut rest = text;
-    while let [first, more @ ..] = rest {
-        if !is_blank(*first) {
-            return rest;
-        }
-        rest = more;
-    }
-    rest
-}
+use hv_model::{is_blank, skip_blanks};
 
 /// The text without the blanks at its back.
 fn without_back_blanks(text: &[u8]) -> &[u8]
@@ -36,5 +22,5 @@ fn without_back_blanks(text: &[u8]) -> &[u8]
 pub fn trimmed(text: &[u8]) -> &[u8]
     ensures { result.now ≡ trimmed_text text.now }
 {
-    without_back_blanks(without_front_blanks(text))
+    without_back_blanks(skip_blanks(text))
 }

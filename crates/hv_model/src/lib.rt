@@ -20,6 +20,7 @@ pub use bytes::is_blank;
 pub use configs::{print_config, read_config};
 pub use faults::{ConfigFault, ModelFault, ModelKind, ModelRefusal};
 pub use model::{Model, is_valid, least_valid, read_model, valid_cond};
+pub use scan::skip_blanks;
 
 /// The words that name no option: the keywords, and the names that preprocessing keeps for itself
 /// (ISO/IEC 9899:1999, 6.4.1, 6.10.8).

@@ -1,6 +1,6 @@
 //! Feature models and model files.
 ghost use Rattle.std.specs.Prelude.{◌≡◌, ◌+◌, ◌<◌, ◌≤◌, ◌↔◌, [], ◌∷◌, ◌++◌, ℕ, Bool, List, Some, false, true, slice_get, position, length, map, IfErr, IfNone, IfOk, IfSome, IsTrue, OnOk};
-ghost use Rattle.std.specs.List.{list_all, list_any};
+ghost use Rattle.std.specs.List.{list_all};
 ghost use Rattle.std.specs.Str.{bytes_eq};
 ghost use Rattle.hv_cond.specs.Diagram.{IsNode, Keeps, holds};
 ghost use Rattle.hv_model.specs.Grammar.{IsRule};
@@ -82,13 +82,6 @@ impl Model {
         ensures { result ≡ position (bytes_eq name.now) self.now.names }
     {
         self.names.position(name)
-    }
-
-    /// Whether there is an option of this name.
-    pub fn contains(&self, name: &[u8]) -> bool
-        ensures { result ≡ list_any (bytes_eq name.now) self.now.names }
-    {
-        self.names.contains(name)
     }
 
     /// Whether the options' values meet every rule.

@@ -41,7 +41,7 @@ fn word_len(text: &[u8]) -> usize
 }
 
 /// The text behind the blanks at its front.
-pub(crate) fn skip_blanks(text: &[u8]) -> &[u8]
+pub fn skip_blanks(text: &[u8]) -> &[u8]
     ensures value { result.now ≡ without_front_blanks text.now }
     ensures same { tokens result.now ≡ tokens text.now }
     ensures shorter { length result.now ≤ length text.now }

@@ -1,5 +1,6 @@
 -- The reader of a byte's numeral reads `decimal n` for n below 256, and nothing else.
-use Rattle.std.proofs.Common.{◌≡◌, ℕ, ◌<◌, ◌≤◌, ◌+◌, ◌-◌, ◌*◌, ◌/◌, ◌%◌, ◌&&◌, List, [], ◌∷◌, ◌++◌, refl, sym, ap, ◌∙◌, arith, subst, Some, inl, inr, nat_le, nat_lt}
+use Rattle.std.specs.Option.{IfNone, IfSome}
+use Rattle.std.proofs.Common.{◌≡◌, ◌≢◌, Option, None, ℕ, ◌<◌, ◌≤◌, ◌+◌, ◌-◌, ◌*◌, ◌/◌, ◌%◌, ◌&&◌, List, [], ◌∷◌, ◌++◌, refl, sym, ap, ◌∙◌, arith, subst, Some, inl, inr, nat_le, nat_lt}
 use Rattle.std.specs.Fmt.{decimal}
 use Rattle.std.proofs.lemmas.Fmt.{decimal_digit, decimal_step}
 use Rattle.std.proofs.lemmas.Bool.Decides.{nat_tests, leb_tells}
@@ -84,3 +85,12 @@ decimal-byte_of (a ∷ b ∷ c ∷ []) n e =
     let text : decimal n ≡ (48 + (a - 48)) ∷ (48 + (b - 48)) ∷ (48 + (c - 48)) ∷ [] = ap decimal (sym p.1) ∙ decimal_three (a - 48) (b - 48) (c - 48) (omega arith) (omega arith) (omega arith) (omega arith) in
     (omega arith, sym (text ∙ ap (λ (x : ℕ). x ∷ (48 + (b - 48)) ∷ (48 + (c - 48)) ∷ []) same_a ∙ ap (λ (x : ℕ). a ∷ x ∷ (48 + (c - 48)) ∷ []) same_b ∙ ap (λ (x : ℕ). a ∷ b ∷ x ∷ []) same_c))
 decimal-byte_of (_ ∷ _ ∷ _ ∷ _ ∷ _) n e = absurd (none-some n e)
+
+-- what is read, if anything, in both directions
+pub some_read : (token : List ℕ) (o : Option ℕ) → o ≡ byte_of token → IfSome o (λ n. (n < 256) × (token ≡ decimal n))
+some_read token None e = tt
+some_read token (Some n) e = decimal-byte_of token n (sym e)
+
+pub none_read : (token : List ℕ) (o : Option ℕ) → o ≡ byte_of token → IfNone o ((n : ℕ) → n < 256 → token ≢ decimal n)
+none_read token None e = λ n small is. none-some n (e ∙ ap byte_of is ∙ byte_of-decimal n small)
+none_read token (Some n) e = tt

@@ -3,9 +3,11 @@
 #![tactic(auto)]
 
 mod controlling;
+mod numeral;
 mod small;
 
 pub use controlling::{Binary, Operand, SIGNED_SUFFIXES, Symbol, UNSIGNED_SUFFIXES, Unary};
+pub use numeral::byte_of;
 pub use small::small_run;
 
 #[cfg(test)]

@@ -4,6 +4,7 @@ ghost use Rattle.hv_plain.specs.Bytes.{is_gap};
 ghost use Rattle.hv_plain.specs.declared.small.reader.Action.TheVariants.{Nothing};
 ghost use Rattle.hv_plain.specs.SmallReader.{IsWithin, answer, behind_byte, behind_negated, byte_of, declared, known_value, is_done, known_after, next, next_at_operand, next_behind_operand, next_in, next_in_body, next_in_declarations, option_number, output_after, reading, reading_of, wanted_of};
 
+use crate::numeral::read_digits;
 use hv_base::{Config, Memory, Text};
 use hv_model::Model;
 use std::alloc::Global;
@@ -93,27 +94,6 @@ fn known_value(model: &Model, known: &[Option<bool>], token: &[u8]) -> Option<bo
     known[option_number(model, token)?]
 }
 
-/// The byte that `token` is the decimal numeral of.
-fn byte_of(token: &[u8]) -> Option<u8>
-    ensures { result ≡ byte_of token.now }
-{
-    match token {
-        [ones @ b'0'..=b'9'] => Some(ones - b'0'),
-        [tens @ b'1'..=b'9', ones @ b'0'..=b'9'] => Some((tens - b'0') * 10 + (ones - b'0')),
-        [
-            hundreds @ b'1'..=b'9',
-            tens @ b'0'..=b'9',
-            ones @ b'0'..=b'9',
-        ] => {
-            let n = u16::from(hundreds - b'0') * 100
-                + u16::from(tens - b'0') * 10
-                + u16::from(ones - b'0');
-            u8::try_from(n).ok()
-        }
-        _ => None,
-    }
-}
-
 /// Reads the first token of a declaration, or that of the declaration of `putchar`.
 fn next_in_declarations(token: &[u8]) -> Option<Step>
     ensures { option_map reading_of result ≡ next_in_declarations token.now }
@@ -175,7 +155,7 @@ fn next_at_negated(holds: bool, model: &Model, known: &[Option<bool>], token: &[
 fn next_at_byte(holds: bool, token: &[u8]) -> Option<Step>
     ensures { option_map reading_of result ≡ behind_byte holds (byte_of token.now) }
 {
-    let byte = byte_of(token)?;
+    let byte = read_digits(token)?;
     Some(Step {
         due: Due {
             words: &[")", ";"],
