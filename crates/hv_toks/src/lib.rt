@@ -4,13 +4,15 @@
 
 mod front;
 mod macros;
+mod parted;
 mod stream;
 mod token;
 
 pub use front::{Front, Line, Match};
 pub use hv_base::{CTok, IntType, Keyword, Punct};
 pub use macros::{Body, Meaning};
-pub use stream::{Classified, Failing, Parted, Stream, StreamTok, project};
+pub use parted::{Failing, Parted};
+pub use stream::{Classified, Stream, StreamTok, project};
 pub use token::{PpKind, PpTok};
 
 #[cfg(test)]

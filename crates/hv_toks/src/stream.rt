@@ -3,7 +3,7 @@ ghost use Rattle.std.specs.Prelude.{◌≡◌, length, All, IfOk};
 ghost use Rattle.hv_cond.specs.Diagram.{IsNode};
 ghost use Rattle.hv_toks.specs.Stream.{projected};
 
-use hv_base::{CTok, Config, List, Memory, Place, Start, Text, Why};
+use hv_base::{CTok, Config, List, Memory, Start, Text};
 use hv_cond::{Cond, Store};
 use std::alloc::Global;
 
@@ -27,22 +27,6 @@ pub struct Classified {
 
 /// The tokens of a translation unit under all configurations, in order.
 pub type Stream = List<StreamTok>;
-
-/// The configurations of `cond` are refused so at a place.
-#[derive(Debug, Drop)]
-pub struct Failing {
-    pub cond: Cond,
-    pub place: Place,
-    pub why: Why,
-}
-
-/// A value for the configurations of `good`, and what refuses the others.
-#[derive(Debug, Drop)]
-pub struct Parted<T> {
-    pub good: Cond,
-    pub value: T,
-    pub failing: List<Failing>,
-}
 
 fn copied_text(alloc: Global, text: &Text) -> Result<Text, Memory>
     ensures { IfOk result (λ copy. copy ≡ text.now) }

@@ -1,4 +1,7 @@
-use hv_base::{Span, Text};
+ghost use Rattle.std.specs.Prelude.{◌≡◌, IfOk};
+
+use hv_base::{Memory, Span, Text};
+use std::alloc::Global;
 
 /// The category of a preprocessing token (ISO/IEC 9899:1999, 6.4).
 #[derive(Clone, Copy, Debug, PartialEq, Eq)]
@@ -19,10 +22,25 @@ pub struct PpTok {
     pub kind: PpKind,
     /// Where it stands in the file as it was read.
     pub span: Span,
-    /// Its spelling behind the splicing of lines.
+    /// Its spelling after the splicing of lines.
     pub text: Text,
     /// Whether white space other than a newline, or a comment, stands directly before it.
     pub space: bool,
     /// Whether it is the first token of its line.
     pub first: bool,
+}
+
+impl PpTok {
+    /// An equal token.
+    pub fn copy(&self, alloc: Global) -> Result<PpTok, Memory>
+        ensures { IfOk result (λ copy. copy ≡ self.now) }
+    {
+        Ok(PpTok {
+            kind: self.kind,
+            span: self.span,
+            text: Text::from_slice(alloc, self.text.as_slice())?,
+            space: self.space,
+            first: self.first,
+        })
+    }
 }
