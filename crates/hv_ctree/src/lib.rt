@@ -3,4 +3,4 @@
 
 mod types;
 
-pub use types::{CType, CompoundType, IntKind, Member, Shape, Types};
+pub use types::{CType, CompoundType, IntKind, Layout, Member, Shape, Types};

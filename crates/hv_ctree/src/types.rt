@@ -77,3 +77,11 @@ pub struct CompoundType {
 pub struct Types {
     pub compounds: List<CompoundType>,
 }
+
+/// What an object of a type takes in memory, in bytes.
+#[derive(Clone, Copy, Debug, PartialEq, Eq)]
+pub struct Layout {
+    pub size: u64,
+    /// Each object's address is a multiple of it.
+    pub align: u64,
+}
