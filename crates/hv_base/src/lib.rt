@@ -2,21 +2,34 @@
 //! and the causes of refusals.
 #![tactic(auto)]
 
+mod ascii;
 mod config;
+mod limits;
 mod list;
 mod memory;
 mod place;
 mod refusal;
-mod span;
+mod stack;
+mod status;
 mod token;
 mod why;
 
+pub use ascii::{
+    is_among, is_blank, is_digit, is_identifier_byte, is_letter, is_line_space, is_nondigit,
+    is_printable,
+};
 pub use config::Config;
+pub use limits::{
+    FIRST_HEADER_FILE, MOST_BRACKETS, MOST_BUNDLE_BYTES, MOST_EVENTS, MOST_FACES, MOST_FILE_BYTES,
+    MOST_FOLDERS, MOST_GROUPS, MOST_INCLUDES, MOST_NAMES, MOST_OBJECT_BYTES, MOST_OPERATORS,
+    MOST_OPTIONS, MOST_STATEMENTS, OPTIONS_FILE, PREDEFINED_FILE,
+};
 pub use list::{List, Text};
 pub use memory::Memory;
-pub use place::Place;
+pub use place::{Place, Span, Start};
 pub use refusal::Refusal;
-pub use span::{Span, Start};
+pub use stack::Stack;
+pub use status::Status;
 pub use token::{CTok, IntType, Keyword, Punct};
 pub use why::Why;
 

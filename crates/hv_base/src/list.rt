@@ -1,4 +1,4 @@
-ghost use Rattle.std.specs.Prelude.{◌≡◌, [], ◌∷◌, ◌++◌, ◌<◌, length, slice_get, OnOk, OnErr, IfErr, IfOk, OnSome};
+ghost use Rattle.std.specs.Prelude.{◌≡◌, ◌↔◌, [], ◌∷◌, ◌++◌, ◌<◌, length, slice_get, IsTrue, OnOk, OnErr, IfErr, IfOk, OnSome};
 ghost use Rattle.std.specs.Option.{option_copied};
 
 use crate::Memory;
@@ -42,7 +42,7 @@ impl<T> List<T> {
         List { items }
     }
 
-    /// Adds `item` at the end, or hands it back for want of memory.
+    /// Adds `item` at the end, or hands it back where memory runs out.
     pub fn push(&mut self, item: T) -> Result<(), T>
         ensures ok { OnOk result (self.new ≡ self.old ++ item ∷ []) }
         ensures handed_back { IfErr result (λ back. back ≡ item) }
@@ -61,6 +61,13 @@ impl<T> List<T> {
         self.items.len()
     }
 
+    /// Whether there is no item.
+    pub fn is_empty(&self) -> bool
+        ensures { IsTrue result ↔ (self.now ≡ []) }
+    {
+        self.items.is_empty()
+    }
+
     /// The item at index `i`, or `None` where the list is not that long.
     pub fn get(&self, i: usize) -> Option<&T>
         ensures value { option_copied result ≡ slice_get self.now i }
@@ -77,6 +84,19 @@ impl<T> List<T> {
     }
 }
 
+impl<T: Drop> List<T> {
+    /// Adds `item` at the end; where memory runs out, drops it.
+    pub fn add(&mut self, item: T) -> Result<(), Memory>
+        ensures ok { OnOk result (self.new ≡ self.old ++ item ∷ []) }
+        ensures unchanged { OnErr result (self.new ≡ self.old) }
+    {
+        match self.push(item) {
+            Ok(()) => Ok(()),
+            Err(_) => Err(Memory),
+        }
+    }
+}
+
 impl<T: Copy> List<T> {
     /// A list of the same items.
     pub fn from_slice(alloc: Global, items: &[T]) -> Result<List<T>, Memory>
@@ -87,6 +107,13 @@ impl<T: Copy> List<T> {
         })
     }
 
+    /// An equal list, which takes its memory from `alloc`.
+    pub fn copy(&self, alloc: Global) -> Result<List<T>, Memory>
+        ensures { IfOk result (λ copy. copy ≡ self.now) }
+    {
+        List::from_slice(alloc, self.as_slice())
+    }
+
     /// Adds copies of `items` at the end, all or none of them.
     pub fn extend_from_slice(&mut self, items: &[T]) -> Result<(), Memory>
         ensures ok { OnOk result (self.new ≡ self.old ++ items.now) }
@@ -95,4 +122,36 @@ impl<T: Copy> List<T> {
         self.items.extend_from_slice(items)?;
         Ok(())
     }
+}
+
+impl List<u8> {
+    /// Whether the text has exactly these bytes.
+    pub fn is_text(&self, bytes: &[u8]) -> bool
+        ensures { IsTrue result ↔ (self.now ≡ bytes.now) }
+    {
+        self.as_slice() == bytes
+    }
+}
+
+impl<T: PartialEq> PartialEq for List<T> {
+    ghost use Rattle.std.specs.Bool.{Decides};
+    ghost use Rattle.std.specs.Cmp.Lexicographic.{pointwise, lists_per};
+
+    ghost eq = { pointwise T.eq };
+
+    ghost laws = { lists_per T.laws };
+
+    /// Whether the items are equal, one by one. Where `==` at an item is exact, so is this.
+    fn eq(&self, other: &List<T>) -> bool
+        ensures value { result ≡ pointwise T.eq self.now other.now }
+        ensures exact { ((a b : T) → Decides (T.eq a b) (a ≡ b)) → Decides result (self.now ≡ other.now) }
+    {
+        self.as_slice() == other.as_slice()
+    }
+}
+
+impl<T: Eq> Eq for List<T> {
+    ghost use Rattle.std.specs.Cmp.Lexicographic.{lists_equiv};
+
+    ghost laws = { lists_equiv T.Eq.laws };
 }

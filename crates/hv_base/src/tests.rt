@@ -28,6 +28,80 @@ fn lists_grow_at_their_end(rt: HostRuntime) -> Result<(), Fail> {
     Ok(())
 }
 
+#[test]
+fn lists_are_equal_where_their_items_are(rt: HostRuntime) -> Result<(), Fail> {
+    let mut text = Text::from_slice(rt.alloc(), b"ab")?;
+    let copy = text.copy(rt.alloc())?;
+    assert!(rt; text == copy);
+    assert!(rt; text.is_text(b"ab"));
+    text.add(b'c')?;
+    assert!(rt; text != copy);
+    assert!(rt; !text.is_text(b"ab"));
+    assert!(rt; !text.is_empty());
+    Ok(())
+}
+
+#[test]
+fn places_and_starts_are_copied_and_compared(rt: HostRuntime) -> Result<(), Fail> {
+    let place = Place {
+        stack: List::from_slice(rt.alloc(), &[3, 5])?,
+        file: 2,
+        offset: 9,
+    };
+    let mut other = place.copy(rt.alloc())?;
+    assert!(rt; place == other);
+    other.stack.add(7)?;
+    assert!(rt; place != other);
+    let start = Start {
+        place,
+        face: 1,
+        index: 0,
+    };
+    let mut next = start.copy(rt.alloc())?;
+    assert!(rt; start == next);
+    next.index = 1;
+    assert!(rt; start != next);
+    Ok(())
+}
+
+#[test]
+fn stacks_give_the_last_pushed_first(rt: HostRuntime) -> Result<(), Fail> {
+    let mut stack = Stack::new(rt.alloc());
+    assert!(rt; stack.is_empty());
+    stack.push(b'a')?;
+    stack.push(b'b')?;
+    assert_eq!(rt; stack.len(), 2);
+    assert_eq!(rt; stack.as_slice(), b"ab".as_slice());
+    assert_eq!(rt; stack.top().copied(), Some(b'b'));
+    assert_eq!(rt; stack.pop(), Some(b'b'));
+    assert_eq!(rt; stack.pop(), Some(b'a'));
+    assert_eq!(rt; stack.pop(), None);
+    Ok(())
+}
+
+#[test]
+fn bytes_are_in_their_classes(rt: HostRuntime) {
+    for byte in b"Zq".as_slice() {
+        assert!(rt; is_letter(*byte) && is_nondigit(*byte) && is_identifier_byte(*byte));
+    }
+    assert!(rt; is_nondigit(b'_') && !is_letter(b'_'));
+    assert!(rt; is_digit(b'7') && is_identifier_byte(b'7') && !is_nondigit(b'7'));
+    assert!(rt; is_blank(b'\t') && is_line_space(b'\r') && !is_blank(b'\r'));
+    assert!(rt; is_printable(b'~') && !is_printable(b'\n'));
+    assert!(rt; is_among(b"if", &["else", "if"]) && !is_among(b"i", &["else", "if"]));
+}
+
+#[test]
+fn statuses_have_their_codes(rt: HostRuntime) {
+    for (status, code) in [
+        (Status::Done, 0),
+        (Status::Memory, 5),
+        (Status::OutOfSteps, 9),
+    ] {
+        assert_eq!(rt; status.code(), code);
+    }
+}
+
 /// A tree that leads back to itself through `List`, as syntax trees do.
 #[derive(Drop)]
 enum Tree {
