@@ -1,2 +1,4 @@
 pub mod Booleans
+pub mod KeywordsLemmas
 pub mod Lists
+pub mod PunctsLemmas

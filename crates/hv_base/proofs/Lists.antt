@@ -1,6 +1,7 @@
 -- Lists in general: what std's lemmas leave out.
 use Rattle.std.proofs.Common.{◌≡◌, ℕ, zero, suc, ◌+◌, ◌-◌, ◌<◌, ◌≤◌, Bool, true, false, not, cond, List, [], ◌∷◌, ◌++◌, map, reverse, length, take, drop, get_or, replicate, refl, ◌∙◌, ap, arith, length-drop, inl, inr, Option, Some, None}
-use Rattle.std.specs.List.{list_all, list_any, position, position_or_len, slice_split, onto_first, Contains}
+use Rattle.std.specs.Option.{IfSome}
+use Rattle.std.specs.List.{find, list_all, list_any, position, position_or_len, slice_split, onto_first, Contains}
 use Rattle.std.specs.Prelude.{unwrap_or, nat_lt}
 use Rattle.std.proofs.lemmas.Bool.{cases_lt}
 use Rattle.std.proofs.lemmas.Bool.Decides.{nat_tests}
@@ -47,6 +48,16 @@ list_all-reverse p (x ∷ xs) =
     ap (list_all p) (reverse-cons x xs)
     ∙ list_all-append p (reverse xs) (x ∷ [])
     ∙ rw (list_all-reverse p xs, and_true) (and_comm (list_all p xs) (p x))
+
+------ find
+
+pub find-passes : {X : Type 0} (p : X → Bool) (xs : List X) → IfSome (find p xs) (λ x. p x ≡ true)
+find-passes p [] = tt
+find-passes p (x ∷ xs) =
+    elim (p x) as (λ b. p x ≡ b → IfSome (cond b (Some x) (find p xs)) (λ y. p y ≡ true)) [
+      | true ↦ λ e. e
+      | false ↦ λ e. find-passes p xs
+    ] refl
 
 ------ position
 

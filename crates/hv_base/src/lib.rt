@@ -4,10 +4,12 @@
 
 mod ascii;
 mod config;
+mod keyword;
 mod limits;
 mod list;
 mod memory;
 mod place;
+mod punct;
 mod refusal;
 mod stack;
 mod status;
@@ -19,6 +21,7 @@ pub use ascii::{
     is_printable,
 };
 pub use config::Config;
+pub use keyword::Keyword;
 pub use limits::{
     FIRST_HEADER_FILE, MOST_BRACKETS, MOST_BUNDLE_BYTES, MOST_EVENTS, MOST_FACES, MOST_FILE_BYTES,
     MOST_FOLDERS, MOST_GROUPS, MOST_INCLUDES, MOST_NAMES, MOST_OBJECT_BYTES, MOST_OPERATORS,
@@ -27,10 +30,11 @@ pub use limits::{
 pub use list::{List, Text};
 pub use memory::Memory;
 pub use place::{Place, Span, Start};
+pub use punct::Punct;
 pub use refusal::Refusal;
 pub use stack::Stack;
 pub use status::Status;
-pub use token::{CTok, IntType, Keyword, Punct};
+pub use token::{CTok, IntType};
 pub use why::Why;
 
 #[cfg(test)]

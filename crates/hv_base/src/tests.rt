@@ -102,6 +102,34 @@ fn statuses_have_their_codes(rt: HostRuntime) {
     }
 }
 
+#[test]
+fn spellings_are_read_back(rt: HostRuntime) {
+    let words = [
+        ("_Bool", Keyword::Bool),
+        ("sizeof", Keyword::Sizeof),
+        ("while", Keyword::While),
+    ];
+    for (text, word) in words {
+        assert_eq!(rt; word.spelling(), text);
+        assert_eq!(rt; Keyword::from_spelling(text.as_bytes()), Some(word));
+    }
+    for text in ["goto", "float", "unsigne", "voids", ""] {
+        assert_eq!(rt; Keyword::from_spelling(text.as_bytes()), None);
+    }
+    let signs = [
+        ("...", Punct::Ellipsis),
+        (">>=", Punct::RightShiftEqual),
+        ("##", Punct::HashHash),
+    ];
+    for (text, sign) in signs {
+        assert_eq!(rt; sign.spelling(), text);
+        assert_eq!(rt; Punct::from_spelling(text.as_bytes()), Some(sign));
+    }
+    for text in ["..", "<:", "$", ""] {
+        assert_eq!(rt; Punct::from_spelling(text.as_bytes()), None);
+    }
+}
+
 /// A tree that leads back to itself through `List`, as syntax trees do.
 #[derive(Drop)]
 enum Tree {
