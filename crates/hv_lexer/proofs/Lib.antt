@@ -1,23 +1,23 @@
 pub mod ByteTests
-pub mod Choice
-pub mod Cursors
+pub mod LongerLemmas
+pub mod CursorsLemmas
 mod Examples
-pub mod Gaps
-pub mod Kept
-pub mod Longest
+pub mod CommentLemmas
+pub mod SplicesLemmas
+pub mod LongestLemmas
 mod LongestExamples
 pub mod LongestTokens
-pub mod Made
-pub mod Only
-pub mod Parting
+pub mod TokenLemmas
+pub mod OneAnswer
+pub mod MadeOf
 pub mod Pieces
-pub mod Printed
+pub mod ReadsBack
 pub mod Punctuators
 pub mod Reaches
-pub mod Rising
+pub mod Rises
 pub mod Spellings
 pub mod Spliced
-pub mod Stopped
+pub mod LongestStops
 pub mod Total
 pub mod Unspliced
-pub mod Views
+pub mod PrefixCases

@@ -7,9 +7,10 @@ use Rattle.hv_toks.specs.declared.token.PpKind.{PpKind}
 use Rattle.hv_toks.specs.declared.token.PpKind.TheVariants.{Identifier, Number, CharConstant, StringLiteral, HeaderName, Punctuator, Other}
 use Rattle.hv_toks.specs.declared.token.PpTok.{PpTok}
 use Rattle.hv_toks.specs.Lexical.{longest, is_identifier, is_number, is_char_constant, is_string_literal, is_header_name, is_punctuator}
-use Rattle.hv_lexer.specs.Laws.{IsSpliced, all, splice, long_splice, keep, NoneLonger, IsLongestToken, IsLongestAtItsPlace, AreLongest}
+use Rattle.hv_toks.specs.Splices.{IsSpliced, all, splice, long_splice, keep}
+use Rattle.hv_lexer.specs.Laws.{NoneLonger, IsLongestToken, IsLongestAtItsPlace, AreLongest}
 use Rattle.hv_lexer.specs.Printed.{is_spelling}
-use Rattle.hv_lexer.proofs.Longest.{longest-is}
+use Rattle.hv_lexer.proofs.LongestLemmas.{longest-is}
 use Rattle.hv_lexer.proofs.Unspliced.{IsUnspliced}
 
 none_longer : (test : List ℕ → Bool) (start rest : List ℕ) → longest (λ more. test (start ++ more)) rest ≡ 0 → NoneLonger test start rest
@@ -18,9 +19,9 @@ none_longer test start rest e = λ n some within. (longest-is (λ more. test (st
 differ : (a b : ℕ) → (a == b) ≡ false → a ≡ b → ⊥
 differ a b t e = grind (arith, nat_tests)
 
--- how far a token of this category goes behind `start`
+-- how far a token of this category goes after `start`
 abbrev more : (start rest : List ℕ) → PpKind → ℕ
-more start rest kind = longest (λ front. is_spelling kind (start ++ front)) rest
+more start rest kind = longest (λ prefix. is_spelling kind (start ++ prefix)) rest
 
 no_more : (start rest : List ℕ) → more start rest Identifier + more start rest Number + more start rest CharConstant + more start rest StringLiteral + more start rest Punctuator ≡ 0
     → (kind : PpKind) → NoneLonger (is_spelling kind) start rest

@@ -5,25 +5,25 @@ use Rattle.std.specs.List.{All}
 use Rattle.std.proofs.lemmas.Bool.Decides.{nat_tests}
 use Rattle.std.proofs.lemmas.List.{take-append-drop, take-take, drop-take, length-take-le, length-drop, length-append, get_or-append-add}
 use Rattle.std.proofs.lemmas.List.Elements.{All-nil, All-cons}
-use Rattle.hv_toks.specs.declared.front.Front.{Front}
-use Rattle.hv_toks.specs.declared.front.Front.TheVariants.{Token}
-use Rattle.hv_toks.specs.declared.front.Line.{Line}
-use Rattle.hv_toks.specs.declared.front.Match.{Match}
+use Rattle.hv_toks.specs.declared.prefix.Prefix.{Prefix}
+use Rattle.hv_toks.specs.declared.prefix.Prefix.TheVariants.{Token}
+use Rattle.hv_toks.specs.declared.prefix.LinePrefix.{LinePrefix}
+use Rattle.hv_toks.specs.declared.prefix.Match.{Match}
 use Rattle.hv_toks.specs.declared.token.PpKind.{PpKind}
 use Rattle.hv_toks.specs.declared.token.PpKind.TheVariants.{Identifier, Number, CharConstant, StringLiteral, HeaderName, Punctuator, Other}
 use Rattle.hv_toks.specs.declared.token.PpTok.{PpTok}
 use Rattle.hv_toks.specs.Lexical.{longest, is_identifier, is_number, is_char_constant, is_string_literal, is_header_name, is_punctuator}
 use Rattle.hv_toks.specs.Splices.{spliced, offsets}
-use Rattle.hv_toks.specs.Cutting.{Cutting, Cuts, IsCut, tokens, open_comment, prepend, at_end, at_white, at_newline, at_comment, at_open_comment, at_token, front, token, found, is_include, ends_line, line_len, longer, longest_token, other, token_at}
+use Rattle.hv_toks.specs.Cutting.{Cutting, Cuts, IsCut, tokens, open_comment, prepend, at_end, at_white, at_newline, at_comment, at_open_comment, at_token, prefix, token, found, is_include, ends_line, line_len, longer, longest_token, other, token_at}
 use Rattle.hv_lexer.specs.Laws.{NoneLonger, begins_with_quote, IsLongestToken, IsLongestAtItsPlace, AreLongest}
 use Rattle.hv_lexer.specs.Printed.{is_spelling}
-use Rattle.hv_lexer.proofs.Longest.{longest-is, longest-none}
-use Rattle.hv_lexer.proofs.Parting.{same_take}
-use Rattle.hv_lexer.proofs.Rising.{dropped, same_lengths, taken-first, token-fits}
+use Rattle.hv_lexer.proofs.LongestLemmas.{longest-is, longest-none}
+use Rattle.hv_lexer.proofs.MadeOf.{same_take}
+use Rattle.hv_lexer.proofs.Rises.{dropped, same_lengths, taken-first, token-fits}
 use Rattle.hv_lexer.proofs.Spliced.{is_spliced}
-use Rattle.hv_lexer.proofs.Views.{View, view, view_newline, view_white, view_line, view_open, view_block, view_token, token_at-fits}
+use Rattle.hv_lexer.proofs.PrefixCases.{View, view, view_newline, view_white, view_line, view_open, view_block, view_token, token_at-fits}
 
--- fronts
+-- prefixes
 
 take_both : (n k : ℕ) (text : List ℕ) → take n text ++ take k (drop n text) ≡ take (n + k) text
 take_both n k text = rw (take-take n (n + k) text (omega arith), drop-take n k text) at (take-append-drop n (take (n + k) text))
@@ -73,7 +73,7 @@ longest_token-most text Punctuator =
     second-within _ _ _ (second-within _ _ _ (second-within _ _ _ (second-within _ _ _ same)))
 longest_token-most text Other = rw (longest-none (is_spelling Other) text (λ x f. refl)) (omega arith)
 
--- the token at the front
+-- the token that comes first
 
 abbrev Longest : List ℕ → Match → Type 0
 Longest text m = IsLongestToken m.kind (take m.len text) (drop m.len text)
@@ -132,7 +132,7 @@ plain_at-longest byte bytes false e within =
 abbrev header_at : Bool → List ℕ → Match
 header_at header text = cond header (found HeaderName (longest is_header_name text)) (plain_at (nat_lt 0 (longest_token text).len) text)
 
-header_at-longest : (line : Line) (byte : ℕ) (bytes : List ℕ) (t : Bool) → (is_include line && nat_lt 0 (longest is_header_name (byte ∷ bytes))) ≡ t
+header_at-longest : (line : LinePrefix) (byte : ℕ) (bytes : List ℕ) (t : Bool) → (is_include line && nat_lt 0 (longest is_header_name (byte ∷ bytes))) ≡ t
     → (header_at t (byte ∷ bytes)).len ≤ length (byte ∷ bytes) → Longest (byte ∷ bytes) (header_at t (byte ∷ bytes))
 header_at-longest line byte bytes true e within =
     let text : List ℕ = byte ∷ bytes in
@@ -140,7 +140,7 @@ header_at-longest line byte bytes true e within =
     ((longest-is is_header_name text).0 (positive n (second (is_include line) _ e)), none_beyond is_header_name text n (omega arith))
 header_at-longest line byte bytes false e within = plain_at-longest byte bytes _ refl within
 
-of_view : (line : Line) (byte : ℕ) (bytes : List ℕ) (f : Front) (m : Match) → View line byte bytes f → f ≡ Token m → token_at line (byte ∷ bytes) ≡ m
+of_view : (line : LinePrefix) (byte : ℕ) (bytes : List ℕ) (f : Prefix) (m : Match) → View line byte bytes f → f ≡ Token m → token_at line (byte ∷ bytes) ≡ m
 of_view line byte bytes f m (view_newline a) e = cc
 of_view line byte bytes f m (view_white a) e = cc
 of_view line byte bytes f m (view_line a) e = cc
@@ -148,9 +148,9 @@ of_view line byte bytes f m view_open e = cc
 of_view line byte bytes f m (view_block n a b) e = cc
 of_view line byte bytes f m view_token e = cc
 
-front-longest : (line : Line) (text : List ℕ) (m : Match) → front line text ≡ Token m → Longest text m
-front-longest line [] m e = absurd (cc)
-front-longest line (byte ∷ bytes) m e =
+prefix-longest : (line : LinePrefix) (text : List ℕ) (m : Match) → prefix line text ≡ Token m → Longest text m
+prefix-longest line [] m e = absurd (cc)
+prefix-longest line (byte ∷ bytes) m e =
     let p = of_view line byte bytes _ m (view line byte bytes) e in
     rw p at (header_at-longest line byte bytes _ refl (token_at-fits line byte bytes).1)
 
@@ -159,7 +159,7 @@ abbrev Starts : (text places : List ℕ) → Cutting → Type 0
 Starts text places (tokens toks) = All (λ tok. IsLongestAtItsPlace tok text places) toks
 Starts text places (open_comment offset) = Unit {0}
 
--- the place of a byte behind some others
+-- the place of a byte after some others
 place : (n : ℕ) (text places before : List ℕ) → length text ≡ length places
     → slice_index (drop n places) (length before) ≡ slice_index places (length (take n text ++ before))
 place n text places before same =
@@ -179,7 +179,7 @@ later : (n : ℕ) (text places : List ℕ) (out : Cutting) → length text ≡ l
 later n text places (tokens toks) same all = λ k tok within. further n text places _ same (all k tok within)
 later n text places (open_comment offset) same all = tt
 
-here : (file : ℕ) (line : Line) (space : Bool) (text places : List ℕ) (m : Match) → front line text ≡ Token m
+here : (file : ℕ) (line : LinePrefix) (space : Bool) (text places : List ℕ) (m : Match) → prefix line text ≡ Token m
     → IsLongestAtItsPlace (token file line space m.kind (take m.len text) (take m.len places)) text places
 here file line space text places m e =
     let fits = token-fits line text m e in
@@ -189,7 +189,7 @@ here file line space text places m e =
       rest = drop m.len text;
       stands = sym (take-append-drop m.len text);
       starts = rw len (taken-first (m.len - 1) places);
-      longest = front-longest line text m e;
+      longest = prefix-longest line text m e;
     }
 
 with_token : (n : ℕ) (text places : List ℕ) (tok : PpTok) (out : Cutting) → length text ≡ length places → IsLongestAtItsPlace tok text places
@@ -198,7 +198,7 @@ with_token n text places tok (tokens toks) same first all =
     All-cons (λ tok. IsLongestAtItsPlace tok text places) tok toks first (later n text places (tokens toks) same all)
 with_token n text places tok (open_comment offset) same first all = tt
 
-starts : {file : ℕ} {line : Line} {space : Bool} {text places : List ℕ} {out : Cutting} → length text ≡ length places → Cuts file line space text places out → Starts text places out
+starts : {file : ℕ} {line : LinePrefix} {space : Bool} {text places : List ℕ} {out : Cutting} → length text ≡ length places → Cuts file line space text places out → Starts text places out
 starts {text = text} {places = places} same (at_end e) = All-nil (λ tok. IsLongestAtItsPlace tok text places)
 starts {text = text} {places = places} same (at_white e c) = later 1 text places _ same (starts (dropped 1 text places same) c)
 starts {text = text} {places = places} same (at_newline e c) = later 1 text places _ same (starts (dropped 1 text places same) c)

@@ -1,26 +1,26 @@
--- A spelling with a gap behind it: the longest token is the spelling, and there is no splice in it.
+-- A spelling with a gap after it: the longest token is the spelling, and there is no splice in it.
 use Rattle.std.proofs.Common.{◌≡◌, ℕ, ◌<◌, Bool, true, false, List, [], ◌∷◌, ◌++◌, refl, arith, length, codes}
 use Rattle.std.specs.Prelude.{◌==◌, nat_eq}
 use Rattle.std.specs.List.{starts_with}
 use Rattle.std.proofs.lemmas.Bool.Decides.{nat_tests}
-use Rattle.hv_toks.specs.declared.front.Front.TheVariants.{Token}
-use Rattle.hv_toks.specs.declared.front.Line.{Line}
+use Rattle.hv_toks.specs.declared.prefix.Prefix.TheVariants.{Token}
+use Rattle.hv_toks.specs.declared.prefix.LinePrefix.{LinePrefix}
 use Rattle.hv_toks.specs.declared.token.PpKind.{PpKind}
 use Rattle.hv_toks.specs.declared.token.PpKind.TheVariants.{Identifier, Number, CharConstant, StringLiteral, HeaderName, Punctuator, Other}
 use Rattle.hv_toks.specs.Lexical.{is_identifier, is_number, is_char_constant, is_string_literal, is_punctuator}
-use Rattle.hv_toks.specs.Cutting.{is_white, found, longest_token, token_at, front}
+use Rattle.hv_toks.specs.Cutting.{is_white, found, longest_token, token_at, prefix}
 use Rattle.hv_lexer.specs.Printed.{is_spelling}
 use Rattle.hv_lexer.proofs.ByteTests.{never_both, two}
-use Rattle.hv_lexer.proofs.Choice.{choose-identifier, choose-number, choose-char, choose-string, choose-punctuator}
+use Rattle.hv_lexer.proofs.LongerLemmas.{choose-identifier, choose-number, choose-char, choose-string, choose-punctuator}
 use Rattle.hv_lexer.proofs.Spellings.{is_plain, IsPlain, left, refuted, plain_identifier, plain_number_text, plain_punctuator, stops_plain, stops_unquoted, unquoted, number_alone, punctuator_no_identifier, punctuator_no_number, Quoted, short, wide, quoted, closed}
-use Rattle.hv_lexer.proofs.Stopped.{Stops, stopped-most, stopped-less, stopped-whole}
+use Rattle.hv_lexer.proofs.LongestStops.{Stops, stopped-most, stopped-less, stopped-whole}
 use Rattle.hv_lexer.proofs.Unspliced.{IsUnspliced, plain_unspliced, closes_unspliced}
 
--- what a spelling with a gap behind it is cut into
+-- what a spelling with a gap after it is cut into
 pub record Parts (kind : PpKind) (text : List ℕ) (byte : ℕ) : Type 0 where
   pub some : 0 < length text
   pub longest_here : (rest : List ℕ) → longest_token (text ++ byte ∷ rest) ≡ found kind (length text)
-  pub begins : (line : Line) (rest : List ℕ) → front line (text ++ byte ∷ rest) ≡ Token (token_at line (text ++ byte ∷ rest))
+  pub begins : (line : LinePrefix) (rest : List ℕ) → prefix line (text ++ byte ∷ rest) ≡ Token (token_at line (text ++ byte ∷ rest))
   pub joins : (rest : List ℕ) → IsUnspliced (byte ∷ rest) → IsUnspliced (text ++ byte ∷ rest)
 
 -- a byte that ends each spelling
@@ -31,9 +31,9 @@ pub record Gap (byte : ℕ) : Type 0 where
   pub slash : (47 == byte) ≡ false
   pub star : (42 == byte) ≡ false
 
-front_token : (line : Line) (x : ℕ) (xs : List ℕ) → (x == 10) ≡ false → is_white x ≡ false → starts_with nat_eq (x ∷ xs) (codes "//") ≡ false
-    → starts_with nat_eq (x ∷ xs) (codes "/*") ≡ false → front line (x ∷ xs) ≡ Token (token_at line (x ∷ xs))
-front_token line x xs a b c d = rw (a, b, c, d) refl
+prefix_token : (line : LinePrefix) (x : ℕ) (xs : List ℕ) → (x == 10) ≡ false → is_white x ≡ false → starts_with nat_eq (x ∷ xs) (codes "//") ≡ false
+    → starts_with nat_eq (x ∷ xs) (codes "/*") ≡ false → prefix line (x ∷ xs) ≡ Token (token_at line (x ∷ xs))
+prefix_token line x xs a b c d = rw (a, b, c, d) refl
 
 plain_newline : (x : ℕ) → is_plain x ≡ true → (x == 10) ≡ false
 plain_newline x e = grind (arith, nat_tests)
@@ -48,12 +48,12 @@ no_comment p (x ∷ []) byte c rest h e some b = rw b (never_both (47 == x))
 no_comment p (x ∷ y ∷ text) byte c rest h e some b =
     refuted _ (λ g. let t = two 47 c x y g in let f : p (47 ∷ c ∷ text) ≡ true = rw (t.0, t.1) at e in let n = h text in absurd (cc))
 
-begins_plain : (p : List ℕ → Bool) (text : List ℕ) (byte : ℕ) (line : Line) (rest : List ℕ) → Gap byte → IsPlain text
+begins_plain : (p : List ℕ → Bool) (text : List ℕ) (byte : ℕ) (line : LinePrefix) (rest : List ℕ) → Gap byte → IsPlain text
     → ((f : List ℕ) → p (47 ∷ 47 ∷ f) ≡ false) → ((f : List ℕ) → p (47 ∷ 42 ∷ f) ≡ false) → p text ≡ true → 0 < length text
-    → front line (text ++ byte ∷ rest) ≡ Token (token_at line (text ++ byte ∷ rest))
+    → prefix line (text ++ byte ∷ rest) ≡ Token (token_at line (text ++ byte ∷ rest))
 begins_plain p [] byte line rest g h a b e some = absurd (omega arith)
 begins_plain p (x ∷ text) byte line rest g h a b e some =
-    front_token line x (text ++ byte ∷ rest) (plain_newline x (left _ _ h)) (plain_white x (left _ _ h))
+    prefix_token line x (text ++ byte ∷ rest) (plain_newline x (left _ _ h)) (plain_white x (left _ _ h))
     (no_comment p (x ∷ text) byte 47 rest a e some g.slash) (no_comment p (x ∷ text) byte 42 rest b e some g.star)
 
 not_empty : (p : List ℕ → Bool) (text : List ℕ) → p [] ≡ false → p text ≡ true → 0 < length text
@@ -171,11 +171,11 @@ module _ (byte : ℕ) (g : Gap byte) where
   string_is_no_char text (short inner e) = refl
   string_is_no_char text (wide inner e) = refl
 
-  char_begins : (text : List ℕ) (line : Line) (rest : List ℕ) → Quoted 39 text → front line (text ++ byte ∷ rest) ≡ Token (token_at line (text ++ byte ∷ rest))
+  char_begins : (text : List ℕ) (line : LinePrefix) (rest : List ℕ) → Quoted 39 text → prefix line (text ++ byte ∷ rest) ≡ Token (token_at line (text ++ byte ∷ rest))
   char_begins text line rest (short inner e) = refl
   char_begins text line rest (wide inner e) = refl
 
-  string_begins : (text : List ℕ) (line : Line) (rest : List ℕ) → Quoted 34 text → front line (text ++ byte ∷ rest) ≡ Token (token_at line (text ++ byte ∷ rest))
+  string_begins : (text : List ℕ) (line : LinePrefix) (rest : List ℕ) → Quoted 34 text → prefix line (text ++ byte ∷ rest) ≡ Token (token_at line (text ++ byte ∷ rest))
   string_begins text line rest (short inner e) = refl
   string_begins text line rest (wide inner e) = refl
 

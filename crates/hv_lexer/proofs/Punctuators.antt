@@ -1,14 +1,14 @@
--- The longest punctuator is one of the first three fronts.
+-- The longest punctuator is one of the first three prefixes.
 use Rattle.std.proofs.Common.{◌≡◌, ℕ, ◌≤◌, Bool, true, false, List, [], ◌∷◌, cond, refl, sym, ◌∙◌, ap, arith, length, take}
 use Rattle.std.specs.Prelude.{nat_le, ◌==◌, ◌&&◌}
 use Rattle.std.specs.List.{list_all, list_any}
 use Rattle.std.specs.Str.{bytes_eq}
 use Rattle.std.proofs.lemmas.Bool.Decides.{nat_tests}
 use Rattle.hv_toks.specs.Lexical.{longest, is_punctuator, pairs, triples}
-use Rattle.hv_lexer.specs.Lengths.{begins_with_punctuator}
-use Rattle.hv_lexer.proofs.Longest.{longest-none, shift, differs}
+use Rattle.hv_lexer.specs.working.Lengths.{begins_with_punctuator}
+use Rattle.hv_lexer.proofs.LongestLemmas.{longest-none, shift, differs}
 
--- the longest of up to three fronts, by which of them pass
+-- the longest of up to three prefixes, by which of them pass
 abbrev pick : Bool → Bool → Bool → ℕ
 pick three two one = cond three 3 (cond two 2 (cond one 1 0))
 

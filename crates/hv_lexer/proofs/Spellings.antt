@@ -8,8 +8,8 @@ use Rattle.std.proofs.lemmas.Slice.Eq.{bytes_eq-Decides}
 use Rattle.hv_toks.specs.Lexical.{optional, is_nondigit, is_digit, is_word_byte, is_identifier, is_exponent, continues_number, begins_with_digit, is_number, is_empty, closes, is_quoted, is_punctuator, pairs, triples}
 use Rattle.hv_toks.specs.Cutting.{is_white}
 use Rattle.hv_lexer.proofs.ByteTests.{never_both}
-use Rattle.hv_lexer.proofs.Longest.{may_continue}
-use Rattle.hv_lexer.proofs.Stopped.{Stops}
+use Rattle.hv_lexer.proofs.LongestLemmas.{may_continue}
+use Rattle.hv_lexer.proofs.LongestStops.{Stops}
 
 -- a byte that is no white space, no newline, no backslash and no quote
 abbrev pub is_plain : ℕ → Bool

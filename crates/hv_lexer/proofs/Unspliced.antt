@@ -3,7 +3,7 @@ use Rattle.std.proofs.Common.{◌≡◌, ℕ, ◌+◌, Bool, true, false, cond, 
 use Rattle.std.specs.Prelude.{◌&&◌, ◌||◌, ◌==◌}
 use Rattle.std.proofs.lemmas.Bool.Decides.{nat_tests}
 use Rattle.hv_toks.specs.Lexical.{closes}
-use Rattle.hv_toks.specs.Splices.{kept, splice_len, spliced}
+use Rattle.hv_toks.specs.Splices.{marks_from, splice_len, spliced}
 use Rattle.hv_lexer.proofs.ByteTests.{never_both}
 use Rattle.hv_lexer.proofs.Spellings.{is_plain, IsPlain, left, right, both}
 
@@ -11,9 +11,9 @@ abbrev pub IsUnspliced : List ℕ → Type 0
 IsUnspliced [] = Unit {0}
 IsUnspliced (byte ∷ bytes) = (splice_len (byte ∷ bytes) ≡ 0) × IsUnspliced bytes
 
-stays : (offset : ℕ) (bytes : List ℕ) → IsUnspliced bytes → map (λ mark. mark.byte) (kept 0 offset bytes) ≡ bytes
+stays : (offset : ℕ) (bytes : List ℕ) → IsUnspliced bytes → map (λ mark. mark.byte) (marks_from 0 offset bytes) ≡ bytes
 stays offset [] h = refl
-stays offset (byte ∷ bytes) h = rw (h.0, kept) (ap (λ t. byte ∷ t) (stays (offset + 1) bytes h.1))
+stays offset (byte ∷ bytes) h = rw (h.0, marks_from) (ap (λ t. byte ∷ t) (stays (offset + 1) bytes h.1))
 
 pub spliced_same : (bytes : List ℕ) → IsUnspliced bytes → spliced bytes ≡ bytes
 spliced_same bytes h = stays 0 bytes h

@@ -7,7 +7,7 @@ use Rattle.hv_toks.specs.declared.token.PpKind.TheVariants.{HeaderName, Other}
 use Rattle.hv_toks.specs.declared.token.PpTok.{PpTok}
 use Rattle.hv_toks.specs.Cutting.{is_white, closing_len, line_len}
 use Rattle.hv_toks.specs.Lexical.{is_header_name}
-use Rattle.hv_toks.specs.Splices.{splice_len}
+use Rattle.hv_toks.specs.Splices.{IsSpliced}
 use Rattle.hv_lexer.specs.Printed.{is_spelling}
 
 -- the spans are of this file, rise from `low` to `high`, and do not overlap
@@ -15,17 +15,6 @@ abbrev pub Rise : (file low high : ℕ) → List PpTok → Type 0
 Rise file low high [] = low ≤ high
 Rise file low high (tok ∷ toks) =
     (tok.span.file ≡ file) × (low ≤ tok.span.start) × (tok.span.start < tok.span.end) × Rise file tok.span.end high toks
-
--- `text` is what is left of bytes that begin at `offset` where each backslash directly before a newline is
--- deleted with it (5.1.1.2), and `places` are the offsets of its bytes
-pub data IsSpliced : (offset : ℕ) → (bytes text places : List ℕ) → Type 0 where
-  all : {offset : ℕ} → IsSpliced offset [] [] []
-  splice : {offset : ℕ} {bytes text places : List ℕ} → IsSpliced (offset + 2) bytes text places
-      → IsSpliced offset (92 ∷ 10 ∷ bytes) text places
-  long_splice : {offset : ℕ} {bytes text places : List ℕ} → IsSpliced (offset + 3) bytes text places
-      → IsSpliced offset (92 ∷ 13 ∷ 10 ∷ bytes) text places
-  keep : {offset : ℕ} {bytes text places : List ℕ} (b : ℕ) → splice_len (b ∷ bytes) ≡ 0 → IsSpliced (offset + 1) bytes text places
-      → IsSpliced offset (b ∷ bytes) (b ∷ text) (offset ∷ places)
 
 -- `//` and bytes that are no newlines (6.4.9)
 abbrev pub IsLineComment : List ℕ → Type 0
@@ -42,7 +31,7 @@ pub data IsGap : List ℕ → Type 0 where
   line_comment : (comment rest : List ℕ) → IsLineComment comment → IsGap rest → IsGap (comment ++ rest)
   block_comment : (comment rest : List ℕ) → IsBlockComment comment → IsGap rest → IsGap (comment ++ rest)
 
--- a text that is made of these tokens, in order, with gaps before, between and behind them; `places` are the
+-- a text that is made of these tokens, in order, with gaps before, between and after them; `places` are the
 -- offsets of its bytes
 pub data Parted : List PpTok → (text places : List ℕ) → Type 0 where
   last : {gap places : List ℕ} → IsGap gap → Parted [] gap places
@@ -52,11 +41,11 @@ pub data Parted : List PpTok → (text places : List ℕ) → Type 0 where
       → Parted toks rest more
       → Parted (tok ∷ toks) (gap ++ (tok.text ++ rest)) (before ++ (here ++ more))
 
--- so is a file, behind its splices
+-- so is a file, after its splices
 abbrev pub IsParted : List PpTok → (bytes : List ℕ) → Type 0
 IsParted toks bytes = (text : List ℕ) × ((places : List ℕ) × (IsSpliced 0 bytes text places × Parted toks text places))
 
--- a text is `start` with `rest` behind it: none of its fronts that are longer than `start` passes the test
+-- a text is `start` with `rest` after it: none of its prefixes that are longer than `start` passes the test
 abbrev pub NoneLonger : (List ℕ → Bool) → (start rest : List ℕ) → Type 0
 NoneLonger test start rest = (n : ℕ) → 0 < n → n ≤ length rest → test (start ++ take n rest) ≡ false
 
@@ -64,9 +53,9 @@ abbrev pub begins_with_quote : List ℕ → Bool
 begins_with_quote [] = false
 begins_with_quote (byte ∷ _) = byte == 39 || byte == 34
 
--- with `rest` behind it, this is the longest token there (6.4, paragraph 4): a spelling of its kind, and no longer
--- front is a spelling of any kind. A header name is the longest of its own category: it is a token only behind `#`
--- and `include`, and `is_spelling` has none. Where no front is a spelling, the token is one byte, or a quote with
+-- with `rest` after it, this is the longest token there (6.4, paragraph 4): a spelling of its kind, and no longer
+-- prefix is a spelling of any kind. A header name is the longest of its own category: it is a token only after `#`
+-- and `include`, and `is_spelling` has none. Where no prefix is a spelling, the token is one byte, or a quote with
 -- the rest of its line
 abbrev pub IsLongestToken : PpKind → (spelling rest : List ℕ) → Type 0
 IsLongestToken HeaderName spelling rest = IsTrue (is_header_name spelling) × NoneLonger is_header_name spelling rest
@@ -83,7 +72,7 @@ pub record IsLongestAtItsPlace (tok : PpTok) (text places : List ℕ) : Type 0 w
   pub starts : tok.span.start ≡ slice_index places (length before)
   pub longest : IsLongestToken tok.kind tok.text rest
 
--- each token of a file, behind its splices, is the longest that starts at its place. Not in here: what lies between
+-- each token of a file, after its splices, is the longest that starts at its place. Not in here: what lies between
 -- the tokens (`IsParted`); that no token starts where a comment does, and where a header name may (`IsCut`)
 abbrev pub AreLongest : List PpTok → (bytes : List ℕ) → Type 0
 AreLongest toks bytes =

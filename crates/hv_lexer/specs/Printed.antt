@@ -1,4 +1,4 @@
--- Text that is printed so that it is cut into what was printed: spellings, and a blank or a newline behind each.
+-- Text that is printed so that it is cut into what was printed: spellings, and a blank or a newline after each.
 use Rattle.std.specs.Prelude.{◌≡◌, ℕ, Bool, false, cond, not, List, [], ◌∷◌, ◌++◌, map, codes, Result, Ok, Err, IsTrue}
 use Rattle.std.specs.Str.{bytes_eq}
 use Rattle.hv_toks.specs.declared.token.PpKind.{PpKind}
@@ -8,7 +8,7 @@ use Rattle.hv_toks.specs.Lexical.{is_identifier, is_number, is_char_constant, is
 use Rattle.hv_lexer.specs.declared.refusal.LexRefusal.{LexRefusal}
 use Rattle.hv_lexer.specs.declared.refusal.LexRefusal.TheVariants.{OpenComment, Memory}
 
--- a token to print, and whether a newline is printed behind it, or else a blank
+-- a token to print, and whether a newline is printed after it, or else a blank
 pub record Piece : Type 0 where
   pub kind : PpKind
   pub spelling : List ℕ
@@ -32,7 +32,7 @@ is_spelling HeaderName text = false
 is_spelling Punctuator text = is_punctuator text
 is_spelling Other text = false
 
--- It may be any spelling of its category but `#`: behind that and `include`, a `<` or a quote could begin a header
+-- It may be any spelling of its category but `#`: after that and `include`, a `<` or a quote could begin a header
 -- name. None needs a premise on splices: no spelling has a newline, or ends in a backslash or a carriage return
 abbrev pub IsPrintable : Piece → Type 0
 IsPrintable piece = IsTrue (is_spelling piece.kind piece.spelling) × IsTrue (not (bytes_eq piece.spelling (codes "#")))

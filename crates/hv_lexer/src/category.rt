@@ -1,10 +1,10 @@
-//! How long the longest front of a text is that is of some category of tokens; 0 where there is none.
+//! How long the longest prefix of a text is that is of some category of tokens; 0 where there is none.
 
 ghost use Rattle.std.specs.Prelude.{◌≡◌, ◌≤◌, ◌<◌, ◌-◌, ◌^◌, ◌||◌, ◌==◌, ◌&&◌, length, not, false};
 ghost use Rattle.std.specs.List.{prefix_len, list_any};
 ghost use Rattle.std.specs.Str.{bytes_eq};
-ghost use Rattle.hv_lexer.specs.Cursors.{text_of, text_from};
-ghost use Rattle.hv_lexer.specs.Lengths.{IsLongest, one_more};
+ghost use Rattle.hv_lexer.specs.working.Cursors.{text_of, text_from};
+ghost use Rattle.hv_lexer.specs.working.Lengths.{IsLongest, one_more};
 ghost use Rattle.hv_toks.specs.Lexical.{longest, continues_number, optional, is_nondigit, is_digit, is_word_byte, is_identifier, is_exponent, is_sign, is_number, begins_with_digit, closes, is_quoted, is_char_constant, is_string_literal, is_enclosed, is_header_name, is_punctuator};
 
 use crate::cursor::{Cursor, Next};
@@ -33,7 +33,7 @@ fn is_sign(byte: u8) -> bool
     matches!(byte, b'+' | b'-')
 }
 
-/// How many bytes the text begins with that may stand in an identifier behind its first.
+/// How many bytes the text begins with that may stand in an identifier after its first.
 fn word_len(text: Cursor) -> usize
     ensures value { result ≡ prefix_len is_word_byte (text_of text.entry) }
     ensures within { result ≤ length (text_of text.entry) }
@@ -62,7 +62,7 @@ pub(crate) fn identifier_len(first: Next) -> usize
     }
 }
 
-/// Whether the byte may stand in a number behind its start.
+/// Whether the byte may stand in a number after its start.
 fn continues_number(exponent: bool, byte: u8) -> bool
     ensures { result ≡ (is_word_byte byte || byte == 46 || (exponent && is_sign byte)) }
 {
@@ -101,8 +101,8 @@ fn digits_len(first: Next) -> usize
     }
 }
 
-/// One byte more than the front behind it, if there is such a front.
-fn behind_byte(len: usize) -> usize
+/// One byte more than the prefix after it, if there is such a prefix.
+fn after_byte(len: usize) -> usize
     requires { len < 2 ^ 64 - 1 }
     ensures { result ≡ one_more len }
 {
@@ -118,7 +118,7 @@ pub(crate) fn number_len(first: Next) -> usize
         return digits_len(first);
     }
     match first.rest.next() {
-        Some(second) => behind_byte(digits_len(second)),
+        Some(second) => after_byte(digits_len(second)),
         None => 0,
     }
 }
@@ -164,7 +164,7 @@ fn quoted_len(first: Next, quote: u8) -> usize
     ensures within { result ≤ length (text_from first.entry) }
 {
     if first.byte == quote {
-        behind_byte(closing_len(first.rest, true, quote))
+        after_byte(closing_len(first.rest, true, quote))
     } else {
         0
     }
@@ -181,7 +181,7 @@ fn wide_quoted_len(first: Next, quote: u8) -> usize
         return quoted_len(first, quote);
     }
     match first.rest.next() {
-        Some(second) => behind_byte(quoted_len(second, quote)),
+        Some(second) => after_byte(quoted_len(second, quote)),
         None => 0,
     }
 }
@@ -218,9 +218,9 @@ pub(crate) fn header_name_len(first: Next) -> usize
     ensures within { result ≤ length (text_from first.entry) }
 {
     if first.byte == b'<' {
-        behind_byte(enclosed_len(first.rest, b'>'))
+        after_byte(enclosed_len(first.rest, b'>'))
     } else if first.byte == b'"' {
-        behind_byte(enclosed_len(first.rest, b'"'))
+        after_byte(enclosed_len(first.rest, b'"'))
     } else {
         0
     }

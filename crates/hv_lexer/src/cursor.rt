@@ -6,7 +6,7 @@ ghost use Rattle.hv_toks.specs.Splices.{splice_len};
 use hv_base::{List, Memory, Text};
 use std::alloc::Global;
 
-/// A place in a file. What is left from there on are the bytes that stay behind the splicing of lines.
+/// A place in a file. What is left from there on are the bytes that stay after the splicing of lines.
 #[derive(Clone, Copy)]
 pub(crate) struct Cursor<'a> {
     bytes: &'a [u8],
@@ -19,9 +19,9 @@ pub(crate) struct Next<'a> {
     pub(crate) byte: u8,
     /// Where it stands in the file as it was read.
     offset: u64,
-    /// What is left behind it.
+    /// What is left after it.
     pub(crate) rest: Cursor<'a>,
-    ghost behind: { 0 < rest.at },
+    ghost advanced: { 0 < rest.at },
 }
 
 /// Bytes that were left, taken off.
@@ -30,9 +30,9 @@ pub(crate) struct Taken<'a> {
     pub(crate) text: Text,
     /// Where the first of them stands in the file as it was read.
     pub(crate) start: u64,
-    /// The offset behind the last of them.
+    /// The offset after the last of them.
     pub(crate) end: u64,
-    /// What is left behind them.
+    /// What is left after them.
     pub(crate) rest: Cursor<'a>,
 }
 
@@ -54,7 +54,7 @@ fn splice_len(text: &[u8]) -> usize
 impl<'a> Next<'a> {
     ghost use Rattle.std.specs.Prelude.{◌∷◌, [], nat_eq};
     ghost use Rattle.std.specs.List.{starts_with};
-    ghost use Rattle.hv_lexer.specs.Cursors.{text_from};
+    ghost use Rattle.hv_lexer.specs.working.Cursors.{text_from};
 
     /// Whether these two bytes come first.
     pub(crate) fn begins(self, first: u8, second: u8) -> bool
@@ -67,7 +67,7 @@ impl<'a> Next<'a> {
 impl<'a> Cursor<'a> {
     ghost use Rattle.std.specs.Prelude.{◌+◌, ◌-◌, ◌^◌, [], ◌∷◌, nat_eq, take, drop, slice_index, IfOk, IfSome, MatchOption};
     ghost use Rattle.std.specs.List.{starts_with};
-    ghost use Rattle.hv_lexer.specs.Cursors.{marks_of, text_of, places_of, text_from};
+    ghost use Rattle.hv_lexer.specs.working.Cursors.{marks_of, text_of, places_of, text_from};
     ghost use Rattle.hv_toks.specs.Splices.{spliced, offsets};
 
     /// The beginning of a file.
@@ -85,7 +85,7 @@ impl<'a> Cursor<'a> {
         ensures from { IfSome result (λ next. self.entry.at ≤ next.offset) }
         ensures within { IfSome result (λ next. next.offset < length self.entry.bytes.now) }
         ensures byte { IfSome result (λ next. next.byte ≡ slice_index self.entry.bytes.now next.offset) }
-        ensures behind { IfSome result (λ next. next.rest ≡ record { bytes = self.entry.bytes; at = next.offset + 1 }) }
+        ensures rest { IfSome result (λ next. next.rest ≡ record { bytes = self.entry.bytes; at = next.offset + 1 }) }
     {
         let mut at = self.at;
         while at < self.bytes.len() {
@@ -125,7 +125,7 @@ impl<'a> Cursor<'a> {
         }
     }
 
-    /// What is left behind the first `len` bytes.
+    /// What is left after the first `len` bytes.
     pub(crate) fn skip(self, len: usize) -> Cursor<'a>
         ensures text { text_of result ≡ drop len (text_of self.entry) }
         ensures places { places_of result ≡ drop len (places_of self.entry) }

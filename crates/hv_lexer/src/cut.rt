@@ -1,47 +1,47 @@
 //! Cutting a file, from the left.
 
 ghost use Rattle.std.specs.Prelude.{◌≡◌, ◌≤◌, ◌<◌, [], ◌∷◌, ◌++◌, length, take, drop, IfOk, IfErr, OnOk, false};
-ghost use Rattle.hv_lexer.specs.Cursors.{text_of, places_of};
+ghost use Rattle.hv_lexer.specs.working.Cursors.{text_of, places_of};
 ghost use Rattle.hv_lexer.specs.Refusal.{IsRefusalOf};
-ghost use Rattle.hv_toks.specs.Cutting.{Cuts, behind, is_start, token, tokens};
+ghost use Rattle.hv_toks.specs.Cutting.{Cuts, line_after, is_start, token, tokens};
 
 use crate::LexRefusal;
 use crate::cursor::Cursor;
-use crate::front::front;
+use crate::prefix::prefix;
 use hv_base::{List, Span};
-use hv_toks::{Front, Line, Match, PpTok};
+use hv_toks::{Prefix, LinePrefix, Match, PpTok};
 use std::alloc::Global;
 
 /// What stands before a token.
 #[derive(Clone, Copy)]
 struct Before {
     file: u32,
-    line: Line,
+    line: LinePrefix,
     /// Whether white space stands directly before it.
     space: bool,
 }
 
-/// What is left behind a token.
+/// What is left after a token.
 #[derive(Clone, Copy)]
 struct After<'a> {
-    line: Line,
+    line: LinePrefix,
     rest: Cursor<'a>,
 }
 
-fn is_start(line: Line) -> bool
+fn is_start(line: LinePrefix) -> bool
     ensures { result ≡ is_start line }
 {
-    matches!(line, Line::Start)
+    matches!(line, LinePrefix::Start)
 }
 
-/// What stands on the line behind a token of this spelling.
-fn behind(line: Line, spelling: &[u8]) -> Line
-    ensures { result ≡ behind line spelling.now }
+/// What stands on the line after a token of this spelling.
+fn line_after(line: LinePrefix, spelling: &[u8]) -> LinePrefix
+    ensures { result ≡ line_after line spelling.now }
 {
     match line {
-        Line::Start if spelling == b"#".as_slice() => Line::Hash,
-        Line::Hash if spelling == b"include".as_slice() => Line::Include,
-        _ => Line::Rest,
+        LinePrefix::Start if spelling == b"#".as_slice() => LinePrefix::Hash,
+        LinePrefix::Hash if spelling == b"include".as_slice() => LinePrefix::Include,
+        _ => LinePrefix::Rest,
     }
 }
 
@@ -56,7 +56,7 @@ fn add<'a>(
     requires some { 0 < found.len }
     requires within { found.len ≤ length (text_of text) }
     ensures ok { OnOk result (tokens.new ≡ tokens.old ++ token before.file before.line before.space found.kind (take found.len (text_of text.entry)) (take found.len (places_of text.entry)) ∷ []) }
-    ensures line { IfOk result (λ after. after.line ≡ behind before.line (take found.len (text_of text.entry))) }
+    ensures line { IfOk result (λ after. after.line ≡ line_after before.line (take found.len (text_of text.entry))) }
     ensures text { IfOk result (λ after. text_of after.rest ≡ drop found.len (text_of text.entry)) }
     ensures places { IfOk result (λ after. places_of after.rest ≡ drop found.len (places_of text.entry)) }
     ensures memory { IfErr result (λ refusal. refusal ≡ LexRefusal.Memory) }
@@ -65,7 +65,7 @@ fn add<'a>(
         return Err(LexRefusal::Memory);
     };
     let after = After {
-        line: behind(before.line, taken.text.as_slice()),
+        line: line_after(before.line, taken.text.as_slice()),
         rest: taken.rest,
     };
     let span = Span {
@@ -88,34 +88,34 @@ fn add<'a>(
 
 /// Cuts what is left of a file.
 pub(crate) fn cut(alloc: Global, file: u32, text: Cursor) -> Result<List<PpTok>, LexRefusal>
-    ensures ok { IfOk result (λ list. Cuts file Line.Start false (text_of text.entry) (places_of text.entry) (tokens list)) }
-    ensures refused { IfErr result (IsRefusalOf (Cuts file Line.Start false (text_of text.entry) (places_of text.entry))) }
+    ensures ok { IfOk result (λ list. Cuts file LinePrefix.Start false (text_of text.entry) (places_of text.entry) (tokens list)) }
+    ensures refused { IfErr result (IsRefusalOf (Cuts file LinePrefix.Start false (text_of text.entry) (places_of text.entry))) }
 {
     let mut tokens = List::new(alloc);
-    let mut line = Line::Start;
+    let mut line = LinePrefix::Start;
     let mut space = false;
     let mut rest = text;
     loop {
-        match front(line, rest) {
-            Front::End => return Ok(tokens),
-            Front::WhiteSpace => {
+        match prefix(line, rest) {
+            Prefix::End => return Ok(tokens),
+            Prefix::WhiteSpace => {
                 space = true;
                 rest = rest.skip(1);
             }
-            Front::Newline => {
-                line = Line::Start;
+            Prefix::Newline => {
+                line = LinePrefix::Start;
                 space = false;
                 rest = rest.skip(1);
             }
-            Front::Comment(len) => {
+            Prefix::Comment(len) => {
                 space = true;
                 rest = rest.skip(len);
             }
-            Front::OpenComment => {
+            Prefix::OpenComment => {
                 let offset = rest.offset();
                 return Err(LexRefusal::OpenComment { offset });
             }
-            Front::Token(found) => {
+            Prefix::Token(found) => {
                 let before = Before { file, line, space };
                 let after = add(&mut tokens, alloc, before, found, rest)?;
                 line = after.line;

@@ -1,7 +1,7 @@
 //! White space and comments.
 
 ghost use Rattle.std.specs.Prelude.{◌≡◌, ◌≤◌, length};
-ghost use Rattle.hv_lexer.specs.Cursors.{text_of, text_from};
+ghost use Rattle.hv_lexer.specs.working.Cursors.{text_of, text_from};
 ghost use Rattle.hv_toks.specs.Cutting.{is_white, ends_line, line_len, closing_len};
 
 use crate::cursor::{Cursor, Next};

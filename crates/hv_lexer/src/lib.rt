@@ -10,7 +10,7 @@ ghost use Rattle.hv_toks.specs.Cutting.{Cutting, IsCut, tokens};
 mod category;
 mod cursor;
 mod cut;
-mod front;
+mod prefix;
 mod gap;
 mod punctuator;
 mod refusal;

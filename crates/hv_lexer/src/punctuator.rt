@@ -3,8 +3,8 @@
 ghost use Rattle.std.specs.Prelude.{◌≡◌, ◌≤◌, ◌<◌, length, take, [], ◌∷◌, MatchOption};
 ghost use Rattle.std.specs.List.{list_any};
 ghost use Rattle.std.specs.Str.{bytes_eq};
-ghost use Rattle.hv_lexer.specs.Cursors.{text_from};
-ghost use Rattle.hv_lexer.specs.Lengths.{IsLongest, begins_with_punctuator};
+ghost use Rattle.hv_lexer.specs.working.Cursors.{text_from};
+ghost use Rattle.hv_lexer.specs.working.Lengths.{IsLongest, begins_with_punctuator};
 ghost use Rattle.hv_toks.specs.Lexical.{longest, is_punctuator};
 
 use crate::cursor::Next;
@@ -109,7 +109,7 @@ fn begins_with_triple(first: Next) -> bool
     }
 }
 
-/// The length of the longest punctuator at the front, 0 where there is none.
+/// The length of the longest punctuator that comes first, 0 where there is none.
 pub(crate) fn punctuator_len(first: Next) -> usize
     ensures value { result ≡ longest is_punctuator (text_from first.entry) }
     ensures greatest { IsLongest is_punctuator (text_from first.entry) result }

@@ -1,12 +1,12 @@
 -- Small files and what they are cut into.
 use Rattle.std.proofs.Common.{◌≡◌, ℕ, Bool, true, false, List, [], ◌∷◌, ◌++◌, refl}
 use Rattle.std.specs.Prelude.{codes}
-use Rattle.hv_toks.specs.declared.front.Front.TheVariants.{Comment, Token}
-use Rattle.hv_toks.specs.declared.front.Line.TheVariants.{Start, Rest}
+use Rattle.hv_toks.specs.declared.prefix.Prefix.TheVariants.{Comment, Token}
+use Rattle.hv_toks.specs.declared.prefix.LinePrefix.TheVariants.{Start, Rest}
 use Rattle.hv_toks.specs.declared.token.PpKind.{PpKind}
 use Rattle.hv_toks.specs.declared.token.PpKind.TheVariants.{Identifier, Number, CharConstant, StringLiteral, HeaderName, Punctuator, Other}
 use Rattle.hv_toks.specs.declared.token.PpTok.{PpTok}
-use Rattle.hv_toks.specs.Cutting.{IsCut, tokens, open_comment, at_end, at_white, at_newline, at_comment, at_open_comment, at_token, front, found}
+use Rattle.hv_toks.specs.Cutting.{IsCut, tokens, open_comment, at_end, at_white, at_newline, at_comment, at_open_comment, at_token, prefix, found}
 
 tok : PpKind → ℕ → ℕ → List ℕ → Bool → Bool → PpTok
 tok kind start end text space first = record { kind = kind; span = record { file = 0; start = start; end = end }; text = text; space = space; first = first }
@@ -42,41 +42,41 @@ unfolding tok
 header = at_token (found Punctuator 1) refl (at_token (found Identifier 7) refl (at_white refl (at_token (found HeaderName 6) refl (at_end refl))))
 
 -- elsewhere it is none
-no_header : front Rest (codes "<a>") ≡ Token (found Punctuator 1)
+no_header : prefix Rest (codes "<a>") ≡ Token (found Punctuator 1)
 no_header = refl
 
 -- no comment begins in a string; an escaped quote does not close it
-string : front Start (34 ∷ 47 ∷ 42 ∷ 92 ∷ 34 ∷ 34 ∷ 120 ∷ []) ≡ Token (found StringLiteral 6)
+string : prefix Start (34 ∷ 47 ∷ 42 ∷ 92 ∷ 34 ∷ 34 ∷ 120 ∷ []) ≡ Token (found StringLiteral 6)
 string = refl
 
-wide : front Start (76 ∷ 39 ∷ 97 ∷ 39 ∷ []) ≡ Token (found CharConstant 4)
+wide : prefix Start (76 ∷ 39 ∷ 97 ∷ 39 ∷ []) ≡ Token (found CharConstant 4)
 wide = refl
 
-wide_open : front Start (76 ∷ 39 ∷ 97 ∷ []) ≡ Token (found Identifier 1)
+wide_open : prefix Start (76 ∷ 39 ∷ 97 ∷ []) ≡ Token (found Identifier 1)
 wide_open = refl
 
-exponent : front Rest (codes "1e+5+x") ≡ Token (found Number 4)
+exponent : prefix Rest (codes "1e+5+x") ≡ Token (found Number 4)
 exponent = refl
 
 -- 6.4 gives this one: it is no valid floating constant
-hexadecimal : front Rest (codes "0x1ffe+y") ≡ Token (found Number 8)
+hexadecimal : prefix Rest (codes "0x1ffe+y") ≡ Token (found Number 8)
 hexadecimal = refl
 
-fraction : front Rest (codes ".5.+") ≡ Token (found Number 3)
+fraction : prefix Rest (codes ".5.+") ≡ Token (found Number 3)
 fraction = refl
 
-dots : front Rest (codes "...x") ≡ Token (found Punctuator 3)
+dots : prefix Rest (codes "...x") ≡ Token (found Punctuator 3)
 dots = refl
 
-two_dots : front Rest (codes "..x") ≡ Token (found Punctuator 1)
+two_dots : prefix Rest (codes "..x") ≡ Token (found Punctuator 1)
 two_dots = refl
 
 -- an open quote at the end of a line whose newline has a carriage return
-return_stays : front Rest (34 ∷ 97 ∷ 13 ∷ 10 ∷ []) ≡ Token (found Other 2)
+return_stays : prefix Rest (34 ∷ 97 ∷ 13 ∷ 10 ∷ []) ≡ Token (found Other 2)
 return_stays = refl
 
-no_token : front Rest (codes "@x") ≡ Token (found Other 1)
+no_token : prefix Rest (codes "@x") ≡ Token (found Other 1)
 no_token = refl
 
-line_comment : front Rest (codes "// a" ++ 10 ∷ []) ≡ Comment 4
+line_comment : prefix Rest (codes "// a" ++ 10 ∷ []) ≡ Comment 4
 line_comment = refl

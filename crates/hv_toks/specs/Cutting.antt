@@ -3,11 +3,11 @@
 use Rattle.std.specs.Prelude.{ℕ, zero, suc, ◌+◌, ◌-◌, ◌≡◌, Bool, true, false, cond, ◌&&◌, ◌||◌, ◌==◌, nat_lt, nat_eq, List, [], ◌∷◌, codes, take, drop, length, slice_index}
 use Rattle.std.specs.List.{starts_with}
 use Rattle.std.specs.Str.{bytes_eq}
-use Rattle.hv_toks.specs.declared.front.Front.{Front}
-use Rattle.hv_toks.specs.declared.front.Front.TheVariants.{End, WhiteSpace, Newline, Comment, OpenComment, Token}
-use Rattle.hv_toks.specs.declared.front.Line.{Line}
-use Rattle.hv_toks.specs.declared.front.Line.TheVariants.{Start, Hash, Include, Rest}
-use Rattle.hv_toks.specs.declared.front.Match.{Match}
+use Rattle.hv_toks.specs.declared.prefix.Prefix.{Prefix}
+use Rattle.hv_toks.specs.declared.prefix.Prefix.TheVariants.{End, WhiteSpace, Newline, Comment, OpenComment, Token}
+use Rattle.hv_toks.specs.declared.prefix.LinePrefix.{LinePrefix}
+use Rattle.hv_toks.specs.declared.prefix.LinePrefix.TheVariants.{Start, Hash, Include, Rest}
+use Rattle.hv_toks.specs.declared.prefix.Match.{Match}
 use Rattle.hv_toks.specs.declared.token.PpKind.{PpKind}
 use Rattle.hv_toks.specs.declared.token.PpKind.TheVariants.{Identifier, Number, CharConstant, StringLiteral, HeaderName, Punctuator, Other}
 use Rattle.hv_toks.specs.declared.token.PpTok.{PpTok}
@@ -33,7 +33,7 @@ closing_len [] = 0
 closing_len (byte ∷ bytes) = cond (starts_with nat_eq (byte ∷ bytes) (codes "*/")) 2 (elim (closing_len bytes) [ zero ↦ 0 | suc n ↦ suc (suc n) ])
 
 -- a comment that begins with `/*` (6.4.9)
-abbrev pub block_comment : List ℕ → Front
+abbrev pub block_comment : List ℕ → Prefix
 block_comment text = elim (closing_len (drop 2 text)) [ zero ↦ OpenComment | suc n ↦ Comment (2 + suc n) ]
 
 abbrev pub found : PpKind → ℕ → Match
@@ -55,43 +55,43 @@ abbrev pub other : List ℕ → Match
 other [] = found Other 0
 other (byte ∷ bytes) = found Other (cond (byte == 39 || byte == 34) (1 + line_len bytes) 1)
 
-abbrev pub is_include : Line → Bool
+abbrev pub is_include : LinePrefix → Bool
 is_include Start = false
 is_include Hash = false
 is_include Include = true
 is_include Rest = false
 
--- the token at the front of a text. Behind `#` and `include`, what could be a header name is one (6.4)
-abbrev pub token_at : Line → List ℕ → Match
+-- the token that a text begins with. After `#` and `include`, what could be a header name is one (6.4)
+abbrev pub token_at : LinePrefix → List ℕ → Match
 token_at line text =
     cond (is_include line && nat_lt 0 (longest is_header_name text)) (found HeaderName (longest is_header_name text))
     (cond (nat_lt 0 (longest_token text).len) (longest_token text) (other text))
 
 -- what a text begins with
-abbrev pub front : Line → List ℕ → Front
-front line [] = End
-front line (byte ∷ bytes) =
+abbrev pub prefix : LinePrefix → List ℕ → Prefix
+prefix line [] = End
+prefix line (byte ∷ bytes) =
     cond (byte == 10) Newline
     (cond (is_white byte) WhiteSpace
     (cond (starts_with nat_eq (byte ∷ bytes) (codes "//")) (Comment (line_len (byte ∷ bytes)))
     (cond (starts_with nat_eq (byte ∷ bytes) (codes "/*")) (block_comment (byte ∷ bytes))
     (Token (token_at line (byte ∷ bytes))))))
 
--- what stands on the line behind a token of this spelling
-abbrev pub behind : Line → List ℕ → Line
-behind Start token = cond (bytes_eq token (codes "#")) Hash Rest
-behind Hash token = cond (bytes_eq token (codes "include")) Include Rest
-behind Include token = Rest
-behind Rest token = Rest
+-- what stands on the line after a token of this spelling
+abbrev pub line_after : LinePrefix → List ℕ → LinePrefix
+line_after Start token = cond (bytes_eq token (codes "#")) Hash Rest
+line_after Hash token = cond (bytes_eq token (codes "include")) Include Rest
+line_after Include token = Rest
+line_after Rest token = Rest
 
-abbrev pub is_start : Line → Bool
+abbrev pub is_start : LinePrefix → Bool
 is_start Start = true
 is_start Hash = false
 is_start Include = false
 is_start Rest = false
 
 -- the token of a file whose spelling this is, and whose bytes have these offsets
-abbrev pub token : ℕ → Line → Bool → PpKind → List ℕ → List ℕ → PpTok
+abbrev pub token : ℕ → LinePrefix → Bool → PpKind → List ℕ → List ℕ → PpTok
 token file line space kind text places = record {
   kind = kind;
   span = record { file = file; start = slice_index places 0; end = slice_index places (length places - 1) + 1 };
@@ -105,30 +105,30 @@ pub data Cutting : Type 0 where
   tokens : List PpTok → Cutting
   open_comment : ℕ → Cutting
 
--- the same, with a token in front
+-- the same, with one more token before the others
 abbrev pub prepend : PpTok → Cutting → Cutting
 prepend tok (tokens toks) = tokens (tok ∷ toks)
 prepend tok (open_comment offset) = open_comment offset
 
--- the cutting of what is left of a file behind the splicing of lines, where `places` are the offsets of its
+-- the cutting of what is left of a file after the splicing of lines, where `places` are the offsets of its
 -- bytes, `line` is what stands on the line before it, and `space` says whether white space stands directly
 -- before it. A comment is white space, and no line ends within it; a newline begins a line and is none
-pub data Cuts (file : ℕ) : Line → (space : Bool) → (text places : List ℕ) → Cutting → Type 0 where
-  at_end : {line : Line} {space : Bool} {text places : List ℕ} → front line text ≡ End
+pub data Cuts (file : ℕ) : LinePrefix → (space : Bool) → (text places : List ℕ) → Cutting → Type 0 where
+  at_end : {line : LinePrefix} {space : Bool} {text places : List ℕ} → prefix line text ≡ End
       → Cuts file line space text places (tokens [])
-  at_white : {line : Line} {space : Bool} {text places : List ℕ} {out : Cutting} → front line text ≡ WhiteSpace
+  at_white : {line : LinePrefix} {space : Bool} {text places : List ℕ} {out : Cutting} → prefix line text ≡ WhiteSpace
       → Cuts file line true (drop 1 text) (drop 1 places) out
       → Cuts file line space text places out
-  at_newline : {line : Line} {space : Bool} {text places : List ℕ} {out : Cutting} → front line text ≡ Newline
+  at_newline : {line : LinePrefix} {space : Bool} {text places : List ℕ} {out : Cutting} → prefix line text ≡ Newline
       → Cuts file Start false (drop 1 text) (drop 1 places) out
       → Cuts file line space text places out
-  at_comment : {line : Line} {space : Bool} {text places : List ℕ} {out : Cutting} (n : ℕ) → front line text ≡ Comment n
+  at_comment : {line : LinePrefix} {space : Bool} {text places : List ℕ} {out : Cutting} (n : ℕ) → prefix line text ≡ Comment n
       → Cuts file line true (drop n text) (drop n places) out
       → Cuts file line space text places out
-  at_open_comment : {line : Line} {space : Bool} {text places : List ℕ} → front line text ≡ OpenComment
+  at_open_comment : {line : LinePrefix} {space : Bool} {text places : List ℕ} → prefix line text ≡ OpenComment
       → Cuts file line space text places (open_comment (slice_index places 0))
-  at_token : {line : Line} {space : Bool} {text places : List ℕ} {out : Cutting} (m : Match) → front line text ≡ Token m
-      → Cuts file (behind line (take m.len text)) false (drop m.len text) (drop m.len places) out
+  at_token : {line : LinePrefix} {space : Bool} {text places : List ℕ} {out : Cutting} (m : Match) → prefix line text ≡ Token m
+      → Cuts file (line_after line (take m.len text)) false (drop m.len text) (drop m.len places) out
       → Cuts file line space text places (prepend (token file line space m.kind (take m.len text) (take m.len places)) out)
 
 -- the cutting of the file of this number

@@ -1,14 +1,14 @@
--- The categories of preprocessing tokens (6.4), each as a test on a whole text, and the longest front of
--- a text that passes such a test. Texts are those behind the splicing of lines.
+-- The categories of preprocessing tokens (6.4), each as a test on a whole text, and the longest prefix of
+-- a text that passes such a test. Texts are those after the splicing of lines.
 -- Not in here: universal character names, trigraphs and digraphs.
 use Rattle.std.specs.Prelude.{ℕ, zero, suc, Bool, true, false, cond, not, ◌&&◌, ◌||◌, ◌==◌, nat_le, List, [], ◌∷◌, codes}
 use Rattle.std.specs.List.{list_all, list_any}
 use Rattle.std.specs.Str.{bytes_eq}
 
--- the length of the longest front of the text, other than the empty one, that passes the test; 0 where there is none
+-- the length of the longest prefix of the text, other than the empty one, that passes the test; 0 where there is none
 abbrev pub longest : (List ℕ → Bool) → List ℕ → ℕ
 longest test [] = 0
-longest test (byte ∷ bytes) = elim (longest (λ front. test (byte ∷ front)) bytes) [
+longest test (byte ∷ bytes) = elim (longest (λ prefix. test (byte ∷ prefix)) bytes) [
   | zero ↦ cond (test (byte ∷ [])) 1 0
   | suc more ↦ suc (suc more)
 ]
@@ -39,7 +39,7 @@ is_exponent byte = byte == 101 || byte == 69 || byte == 112 || byte == 80
 abbrev pub is_sign : ℕ → Bool
 is_sign byte = byte == 43 || byte == 45
 
--- what may follow in a preprocessing number; a sign only directly behind an exponent's letter
+-- what may follow in a preprocessing number; a sign only directly after an exponent's letter
 abbrev pub continues_number : (exponent : Bool) → List ℕ → Bool
 continues_number exponent [] = true
 continues_number exponent (byte ∷ bytes) =
@@ -57,8 +57,8 @@ abbrev pub is_empty : List ℕ → Bool
 is_empty [] = true
 is_empty (_ ∷ _) = false
 
--- what may stand behind an opening quote, up to and with the closing one, all on one line. Where `escapes`
--- holds, a backslash and the byte behind it go together; `escaped` says that a backslash stands before
+-- what may stand after an opening quote, up to and with the closing one, all on one line. Where `escapes`
+-- holds, a backslash and the byte after it go together; `escaped` says that a backslash stands before
 abbrev pub closes : (escapes : Bool) → (quote : ℕ) → (escaped : Bool) → List ℕ → Bool
 closes escapes quote escaped [] = false
 closes escapes quote true (byte ∷ bytes) = not (byte == 10) && closes escapes quote false bytes

@@ -13,7 +13,7 @@ pub record Entry : Type 0 where
   pub name : List ℕ
   pub macro : Macro
 
--- what a name means behind these entries, where it meant this before them: its latest entry counts
+-- what a name means after these entries, where it meant this before them: its latest entry counts
 abbrev pub meaning_after : Macro → List Entry → List ℕ → Macro
 meaning_after before [] name = before
 meaning_after before (e ∷ entries) name = meaning_after (if bytes_eq e.name name then e.macro else before) entries name
@@ -22,7 +22,7 @@ meaning_after before (e ∷ entries) name = meaning_after (if bytes_eq e.name na
 abbrev pub meaning_of : List Entry → List ℕ → Macro
 meaning_of entries name = meaning_after undefined entries name
 
--- a pp-number, behind white space, that is made of no byte of a source
+-- a pp-number, after white space, that is made of no byte of a source
 abbrev pub number_token : List ℕ → Place → PpTok
 number_token text place = record {
   kind = Number;

@@ -2,13 +2,13 @@
 //! translation unit under all configurations.
 #![tactic(auto)]
 
-mod front;
+mod prefix;
 mod macros;
 mod parted;
 mod stream;
 mod token;
 
-pub use front::{Front, Line, Match};
+pub use prefix::{Prefix, LinePrefix, Match};
 pub use hv_base::{CTok, IntType, Keyword, Punct};
 pub use macros::{Body, Meaning};
 pub use parted::{Failing, Parted};

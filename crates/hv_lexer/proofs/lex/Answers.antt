@@ -1,9 +1,9 @@
-use Rattle.hv_lexer.specs.Cursors.{text_of, places_of}
+use Rattle.hv_lexer.specs.working.Cursors.{text_of, places_of}
 use Rattle.hv_lexer.proofs.LongestTokens.{lex-longest}
-use Rattle.hv_lexer.proofs.Only.{if_cut, tells}
-use Rattle.hv_lexer.proofs.Parting.{lex-parts}
-use Rattle.hv_lexer.proofs.Printed.{restores}
-use Rattle.hv_lexer.proofs.Rising.{lex-rises}
+use Rattle.hv_lexer.proofs.OneAnswer.{if_cut, tells}
+use Rattle.hv_lexer.proofs.MadeOf.{lex-parts}
+use Rattle.hv_lexer.proofs.ReadsBack.{restores}
+use Rattle.hv_lexer.proofs.Rises.{lex-rises}
 use Rattle.hv_lexer.proofs.Total.{total}
 use Rattle.hv_lexer.proofs.lex.Goals as goal
 

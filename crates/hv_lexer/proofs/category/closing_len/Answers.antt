@@ -1,7 +1,7 @@
 use Rattle.std.proofs.Common.{refl, sym, ◌∙◌, arith}
-use Rattle.hv_lexer.specs.Cursors.{text_of}
-use Rattle.hv_lexer.proofs.Cursors.{text-bounded}
-use Rattle.hv_lexer.proofs.Longest.{longest-closes, closes-stop, closes-never}
+use Rattle.hv_lexer.specs.working.Cursors.{text_of}
+use Rattle.hv_lexer.proofs.CursorsLemmas.{text-bounded}
+use Rattle.hv_lexer.proofs.LongestLemmas.{longest-closes, closes-stop, closes-never}
 use Rattle.hv_lexer.proofs.category.closing_len.Goals as goal
 
 pub returns-then-next-eq10-clause-value : goal.returns-then-next-eq10-clause-value

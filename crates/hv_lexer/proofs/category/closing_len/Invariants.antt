@@ -1,6 +1,6 @@
 use Rattle.std.proofs.Common.{◌≡◌, ◌+◌, false, length}
-use Rattle.hv_lexer.specs.Cursors.{text_of}
-use Rattle.hv_lexer.proofs.Longest.{closes_len, shifted}
+use Rattle.hv_lexer.specs.working.Cursors.{text_of}
+use Rattle.hv_lexer.proofs.LongestLemmas.{closes_len, shifted}
 use Rattle.hv_lexer.proofs.category.closing_len.Given as goal
 
 abbrev pub invariant-loop-next : goal.invariant-loop-next

@@ -1,7 +1,7 @@
 use Rattle.std.proofs.Common.{sym, ◌∙◌, arith}
-use Rattle.hv_lexer.specs.Cursors.{text_of}
-use Rattle.hv_lexer.proofs.Cursors.{text-bounded}
-use Rattle.hv_lexer.proofs.Longest.{digits-no}
+use Rattle.hv_lexer.specs.working.Cursors.{text_of}
+use Rattle.hv_lexer.proofs.CursorsLemmas.{text-bounded}
+use Rattle.hv_lexer.proofs.LongestLemmas.{digits-no}
 use Rattle.hv_lexer.proofs.category.digits_len.Goals as goal
 
 pub overflow_add-result : goal.overflow_add-result

@@ -1,6 +1,6 @@
 use Rattle.std.proofs.Common.{sym, ◌∙◌}
-use Rattle.hv_lexer.specs.Cursors.{text_of}
-use Rattle.hv_lexer.proofs.Longest.{enclosed-yes, enclosed-no}
+use Rattle.hv_lexer.specs.working.Cursors.{text_of}
+use Rattle.hv_lexer.proofs.LongestLemmas.{enclosed-yes, enclosed-no}
 use Rattle.hv_lexer.proofs.category.enclosed_len.Goals as goal
 
 pub returns-in-Some-clause-value : goal.returns-in-Some-clause-value

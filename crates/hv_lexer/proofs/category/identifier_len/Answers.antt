@@ -1,8 +1,8 @@
 use Rattle.std.proofs.Common.{sym, ap, ◌∙◌, ◌+◌, arith}
 use Rattle.hv_toks.specs.Lexical.{is_identifier}
-use Rattle.hv_lexer.specs.Cursors.{text_of, text_from}
-use Rattle.hv_lexer.proofs.Cursors.{text-bounded}
-use Rattle.hv_lexer.proofs.Longest.{longest-from, identifier-yes, identifier-no}
+use Rattle.hv_lexer.specs.working.Cursors.{text_of, text_from}
+use Rattle.hv_lexer.proofs.CursorsLemmas.{text-bounded}
+use Rattle.hv_lexer.proofs.LongestLemmas.{longest-from, identifier-yes, identifier-no}
 use Rattle.hv_lexer.proofs.category.identifier_len.Goals as goal
 
 pub overflow_add-result : goal.overflow_add-result

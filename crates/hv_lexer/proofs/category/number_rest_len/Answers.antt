@@ -1,7 +1,7 @@
 use Rattle.std.proofs.Common.{◌≡◌, sym, ◌∙◌, arith}
-use Rattle.hv_lexer.specs.Cursors.{text_of}
-use Rattle.hv_lexer.proofs.Cursors.{text-bounded}
-use Rattle.hv_lexer.proofs.Longest.{number_rest_len, longest-number_rest, number-stop}
+use Rattle.hv_lexer.specs.working.Cursors.{text_of}
+use Rattle.hv_lexer.proofs.CursorsLemmas.{text-bounded}
+use Rattle.hv_lexer.proofs.LongestLemmas.{number_rest_len, longest-number_rest, number-stop}
 use Rattle.hv_lexer.proofs.category.number_rest_len.Goals as goal
 
 pub returns-then-not-continues_number-clause-value : goal.returns-then-not-continues_number-clause-value

@@ -1,6 +1,6 @@
 use Rattle.std.proofs.Common.{◌≡◌, ◌+◌, false, length}
-use Rattle.hv_lexer.specs.Cursors.{text_of}
-use Rattle.hv_lexer.proofs.Longest.{number_rest_len}
+use Rattle.hv_lexer.specs.working.Cursors.{text_of}
+use Rattle.hv_lexer.proofs.LongestLemmas.{number_rest_len}
 use Rattle.hv_lexer.proofs.category.number_rest_len.Given as goal
 
 abbrev pub invariant-loop-next : goal.invariant-loop-next

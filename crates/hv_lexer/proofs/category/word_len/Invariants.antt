@@ -1,7 +1,7 @@
 use Rattle.std.proofs.Common.{◌≡◌, ◌+◌, length}
 use Rattle.std.specs.List.{prefix_len}
 use Rattle.hv_toks.specs.Lexical.{is_word_byte}
-use Rattle.hv_lexer.specs.Cursors.{text_of}
+use Rattle.hv_lexer.specs.working.Cursors.{text_of}
 use Rattle.hv_lexer.proofs.category.word_len.Given as goal
 
 abbrev pub invariant-loop-next : goal.invariant-loop-next

@@ -1,7 +1,7 @@
 use Rattle.std.proofs.Common.{◌≤◌, ◌++◌, ◌∷◌, [], ◌∙◌, ap, arith, length}
-use Rattle.hv_lexer.specs.Cursors.{text_of, places_of}
-use Rattle.hv_lexer.proofs.Cursors.{places-as-many}
-use Rattle.hv_lexer.proofs.Made.{made-token}
+use Rattle.hv_lexer.specs.working.Cursors.{text_of, places_of}
+use Rattle.hv_lexer.proofs.CursorsLemmas.{places-as-many}
+use Rattle.hv_lexer.proofs.TokenLemmas.{made-token}
 use Rattle.hv_lexer.proofs.cut.add.Goals as goal
 use Rattle.hv_lexer.proofs.cut.add.Goals.{in-Ok-push, in-Err}
 

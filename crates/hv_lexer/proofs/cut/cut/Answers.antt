@@ -1,4 +1,4 @@
-use Rattle.hv_lexer.specs.Cursors.{text_of, places_of}
+use Rattle.hv_lexer.specs.working.Cursors.{text_of, places_of}
 use Rattle.hv_lexer.proofs.Reaches.{reaches-white, reaches-newline, reaches-comment, reaches-end, reaches-open, reaches-token}
 use Rattle.hv_lexer.proofs.cut.cut.Goals as goal
 

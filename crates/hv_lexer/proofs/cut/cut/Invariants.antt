@@ -1,5 +1,5 @@
 use Rattle.std.proofs.Common.{length}
-use Rattle.hv_lexer.specs.Cursors.{text_of, places_of}
+use Rattle.hv_lexer.specs.working.Cursors.{text_of, places_of}
 use Rattle.hv_lexer.proofs.Reaches.{Reaches}
 use Rattle.hv_lexer.proofs.cut.cut.Given as goal
 

@@ -1,7 +1,7 @@
 use Rattle.std.proofs.Common.{◌∙◌, sym, ap, arith, length}
-use Rattle.hv_lexer.specs.Cursors.{text_of, text_from}
-use Rattle.hv_lexer.proofs.Cursors.{text-bounded}
-use Rattle.hv_lexer.proofs.Gaps.{closing-step, closing-long}
+use Rattle.hv_lexer.specs.working.Cursors.{text_of, text_from}
+use Rattle.hv_lexer.proofs.CursorsLemmas.{text-bounded}
+use Rattle.hv_lexer.proofs.CommentLemmas.{closing-step, closing-long}
 use Rattle.hv_lexer.proofs.gap.closing_len.Goals as goal
 
 pub overflow_add-result : goal.overflow_add-result

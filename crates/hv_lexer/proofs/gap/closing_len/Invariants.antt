@@ -1,7 +1,7 @@
 use Rattle.std.proofs.Common.{◌≡◌, ◌+◌, length}
 use Rattle.hv_toks.specs.Cutting.{closing_len}
-use Rattle.hv_lexer.specs.Cursors.{text_of}
-use Rattle.hv_lexer.proofs.Longest.{shifted}
+use Rattle.hv_lexer.specs.working.Cursors.{text_of}
+use Rattle.hv_lexer.proofs.LongestLemmas.{shifted}
 use Rattle.hv_lexer.proofs.gap.closing_len.Given as goal
 
 abbrev pub invariant-loop-next : goal.invariant-loop-next

@@ -1,5 +1,5 @@
 use Rattle.std.proofs.Common.{arith}
-use Rattle.hv_lexer.proofs.Cursors.{text-bounded}
+use Rattle.hv_lexer.proofs.CursorsLemmas.{text-bounded}
 use Rattle.hv_lexer.proofs.gap.line_len.Goals as goal
 
 pub overflow_add-len : goal.overflow_add-len

@@ -1,6 +1,6 @@
 use Rattle.std.proofs.Common.{◌≡◌, ◌+◌, length}
 use Rattle.hv_toks.specs.Cutting.{line_len}
-use Rattle.hv_lexer.specs.Cursors.{text_of}
+use Rattle.hv_lexer.specs.working.Cursors.{text_of}
 use Rattle.hv_lexer.proofs.gap.line_len.Given as goal
 
 abbrev pub invariant-loop-next : goal.invariant-loop-next

@@ -1,7 +1,7 @@
 use Rattle.std.proofs.Common.{◌∙◌, sym}
 use Rattle.hv_toks.specs.Lexical.{is_punctuator}
-use Rattle.hv_lexer.specs.Cursors.{text_of, text_from}
-use Rattle.hv_lexer.proofs.Longest.{longest-from}
+use Rattle.hv_lexer.specs.working.Cursors.{text_of, text_from}
+use Rattle.hv_lexer.proofs.LongestLemmas.{longest-from}
 use Rattle.hv_lexer.proofs.Punctuators.{three-first, two-first, one-first, none-begun, single-begun}
 use Rattle.hv_lexer.proofs.punctuator.punctuator_len.Goals as goal
 

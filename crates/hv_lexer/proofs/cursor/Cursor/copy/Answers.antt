@@ -1,6 +1,6 @@
 use Rattle.std.proofs.Common.{◌∙◌, sym, ap, ◌++◌, ◌∷◌, []}
-use Rattle.hv_lexer.specs.Cursors.{text_of}
-use Rattle.hv_lexer.proofs.Cursors.{walk-rest, walk-taken}
+use Rattle.hv_lexer.specs.working.Cursors.{text_of}
+use Rattle.hv_lexer.proofs.CursorsLemmas.{walk-rest, walk-taken}
 use Rattle.hv_lexer.proofs.cursor.Cursor.copy.Goals as goal
 
 pub loop-preserved : goal.loop-preserved

@@ -1,5 +1,5 @@
 use Rattle.std.proofs.Common.{◌≡◌, drop, take}
-use Rattle.hv_lexer.specs.Cursors.{text_of}
+use Rattle.hv_lexer.specs.working.Cursors.{text_of}
 use Rattle.hv_lexer.proofs.cursor.Cursor.copy.Given as goal
 
 abbrev pub invariant-loop : goal.invariant-loop

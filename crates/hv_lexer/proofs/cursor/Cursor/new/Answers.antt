@@ -1,5 +1,5 @@
 use Rattle.std.proofs.Common.{refl}
-use Rattle.hv_lexer.specs.Cursors.{marks_of, text_of, places_of}
+use Rattle.hv_lexer.specs.working.Cursors.{marks_of, text_of, places_of}
 use Rattle.hv_lexer.proofs.cursor.Cursor.new.Goals as goal
 
 pub returns-clause-text : goal.returns-clause-text

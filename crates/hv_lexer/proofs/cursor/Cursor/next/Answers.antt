@@ -1,6 +1,6 @@
 use Rattle.std.proofs.Common.{◌∙◌, ap, map, arith}
-use Rattle.hv_lexer.specs.Cursors.{text_of}
-use Rattle.hv_lexer.proofs.Cursors.{marks-splice, marks-next, marks-end}
+use Rattle.hv_lexer.specs.working.Cursors.{text_of}
+use Rattle.hv_lexer.proofs.CursorsLemmas.{marks-splice, marks-next, marks-end}
 use Rattle.hv_lexer.proofs.cursor.Cursor.next.Goals as goal
 
 pub loop-at-preserved : goal.loop-at-preserved

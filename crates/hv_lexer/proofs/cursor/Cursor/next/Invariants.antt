@@ -1,5 +1,5 @@
 use Rattle.std.proofs.Common.{◌≡◌, ◌-◌, ◌≤◌, length}
-use Rattle.hv_lexer.specs.Cursors.{marks_of}
+use Rattle.hv_lexer.specs.working.Cursors.{marks_of}
 use Rattle.hv_lexer.proofs.cursor.Cursor.next.Given as goal
 
 abbrev pub invariant-loop-at : goal.invariant-loop-at

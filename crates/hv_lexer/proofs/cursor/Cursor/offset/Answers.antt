@@ -1,4 +1,4 @@
-use Rattle.hv_lexer.proofs.Cursors.{place-first, place-none}
+use Rattle.hv_lexer.proofs.CursorsLemmas.{place-first, place-none}
 use Rattle.std.proofs.Common.{sym}
 use Rattle.hv_lexer.proofs.cursor.Cursor.offset.Goals as goal
 

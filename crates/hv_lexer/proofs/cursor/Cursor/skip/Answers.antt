@@ -1,11 +1,11 @@
 use Rattle.std.proofs.Common.{◌≡◌, ◌+◌, ◌-◌, ◌∙◌, sym, ap, arith}
-use Rattle.hv_lexer.specs.Cursors.{marks_of, text_of}
-use Rattle.hv_lexer.proofs.Cursors.{walk-rest, walk-end, as_read-more, place-first, places-behind, text-short}
+use Rattle.hv_lexer.specs.working.Cursors.{marks_of, text_of}
+use Rattle.hv_lexer.proofs.CursorsLemmas.{walk-rest, walk-end, as_read-more, place-first, places-after, text-short}
 use Rattle.hv_lexer.proofs.cursor.Cursor.skip.Goals as goal
 
 pub returns-in-None-clause-places : goal.returns-in-None-clause-places
 returns-in-None-clause-places c =
-    places-behind c.args.self c.loop.rest c.args.len (walk-end (marks_of c.args.self) c.loop.counter c.args.len _ c.loop.invariant.rest c.in-None.ensures.marks (omega arith))
+    places-after c.args.self c.loop.rest c.args.len (walk-end (marks_of c.args.self) c.loop.counter c.args.len _ c.loop.invariant.rest c.in-None.ensures.marks (omega arith))
 
 pub returns-in-None-clause-last : goal.returns-in-None-clause-last
 returns-in-None-clause-last c = λ some within.
@@ -22,7 +22,7 @@ loop-preserved c =
     let here = sym c.in-Some.ensures.marks ∙ c.loop.invariant.rest in
     let text = sym c.in-Some.ensures.text ∙ c.loop.invariant.text in
     let place = place-first c.args.self c.loop.counter _ _ here in
-    let at = ap (λ rest. rest.at) c.in-Some.ensures.behind in
+    let at = ap (λ rest. rest.at) c.in-Some.ensures.rest in
     let within = rw c.loop.invariant.same at c.in-Some.ensures.within in
     let byte = rw c.loop.invariant.same at c.in-Some.ensures.byte in
     let n : c.loop.counter + 1 - 1 ≡ c.loop.counter = omega arith in
@@ -30,7 +30,7 @@ loop-preserved c =
       rest = walk-rest (marks_of c.args.self) c.loop.counter _ _ here;
       text = walk-rest (text_of c.args.self) c.loop.counter _ _ text;
       last = λ _. rw n (omega (arith, place));
-      same = ap (λ rest. rest.bytes) c.in-Some.ensures.behind ∙ c.loop.invariant.same;
+      same = ap (λ rest. rest.bytes) c.in-Some.ensures.rest ∙ c.loop.invariant.same;
       from = omega (arith, c.loop.invariant.from, c.in-Some.ensures.from);
       within = λ _. omega arith;
       as_read = λ e.
@@ -43,4 +43,4 @@ loop-preserved c =
 pub returns-clause-places : goal.returns-clause-places
 returns-clause-places c =
     let n : c.loop.counter ≡ c.args.len = omega arith in
-    places-behind c.args.self c.loop.rest c.args.len (rw n at c.loop.invariant.rest)
+    places-after c.args.self c.loop.rest c.args.len (rw n at c.loop.invariant.rest)

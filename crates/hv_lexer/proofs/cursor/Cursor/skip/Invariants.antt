@@ -1,5 +1,5 @@
 use Rattle.std.proofs.Common.{◌≡◌, ◌+◌, ◌-◌, ◌<◌, ◌≤◌, drop, take, get_or, length}
-use Rattle.hv_lexer.specs.Cursors.{marks_of, text_of, places_of}
+use Rattle.hv_lexer.specs.working.Cursors.{marks_of, text_of, places_of}
 use Rattle.hv_lexer.proofs.cursor.Cursor.skip.Given as goal
 
 abbrev pub invariant-loop : goal.invariant-loop

@@ -2,7 +2,7 @@ use crate::PpKind;
 
 /// What stands on a line before the next token, as far as the cutting asks for it.
 #[derive(Clone, Copy, Debug, PartialEq, Eq)]
-pub enum Line {
+pub enum LinePrefix {
     /// No token yet.
     Start,
     /// `#` alone.
@@ -23,7 +23,7 @@ pub struct Match {
 
 /// What a text begins with.
 #[derive(Clone, Copy, Debug, PartialEq, Eq)]
-pub enum Front {
+pub enum Prefix {
     /// Nothing: the text is empty.
     End,
     /// A byte of white space that is no newline.

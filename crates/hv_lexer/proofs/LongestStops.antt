@@ -1,9 +1,9 @@
--- The longest front of a text, where a byte behind its first bytes goes into none.
+-- The longest prefix of a text, where a byte after its first bytes goes into none.
 use Rattle.std.proofs.Common.{◌≡◌, ℕ, zero, suc, ◌<◌, ◌≤◌, Bool, true, false, List, [], ◌∷◌, ◌++◌, refl, arith, length}
 use Rattle.hv_toks.specs.Lexical.{longest}
-use Rattle.hv_lexer.proofs.Longest.{longest-none, shift}
+use Rattle.hv_lexer.proofs.LongestLemmas.{longest-none, shift}
 
--- no front that passes goes beyond `start`, where this byte follows
+-- no prefix that passes goes beyond `start`, where this byte follows
 abbrev pub Stops : (List ℕ → Bool) → List ℕ → ℕ → Type 0
 Stops p start byte = (f : List ℕ) → p (start ++ byte ∷ f) ≡ false
 

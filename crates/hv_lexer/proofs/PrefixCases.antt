@@ -3,16 +3,16 @@ use Rattle.std.proofs.Common.{◌≡◌, ℕ, zero, suc, ◌+◌, ◌<◌, ◌�
 use Rattle.std.specs.Prelude.{nat_eq, nat_lt, ◌==◌, ◌&&◌, ◌||◌, codes}
 use Rattle.std.specs.List.{starts_with}
 use Rattle.std.proofs.lemmas.Bool.Decides.{nat_tests}
-use Rattle.hv_toks.specs.declared.front.Front.{Front}
-use Rattle.hv_toks.specs.declared.front.Front.TheVariants.{WhiteSpace, Newline, Comment, OpenComment, Token}
-use Rattle.hv_toks.specs.declared.front.Line.{Line}
-use Rattle.hv_toks.specs.declared.front.Match.{Match}
+use Rattle.hv_toks.specs.declared.prefix.Prefix.{Prefix}
+use Rattle.hv_toks.specs.declared.prefix.Prefix.TheVariants.{WhiteSpace, Newline, Comment, OpenComment, Token}
+use Rattle.hv_toks.specs.declared.prefix.LinePrefix.{LinePrefix}
+use Rattle.hv_toks.specs.declared.prefix.Match.{Match}
 use Rattle.hv_toks.specs.declared.token.PpKind.TheVariants.{HeaderName}
-use Rattle.hv_lexer.proofs.Longest.{shift}
+use Rattle.hv_lexer.proofs.LongestLemmas.{shift}
 use Rattle.hv_toks.specs.Lexical.{longest, is_identifier, is_number, is_char_constant, is_string_literal, is_header_name, is_punctuator}
-use Rattle.hv_toks.specs.Cutting.{front, found, is_white, is_include, line_len, closing_len, longer, longest_token, other, token_at, ends_line}
+use Rattle.hv_toks.specs.Cutting.{prefix, found, is_white, is_include, line_len, closing_len, longer, longest_token, other, token_at, ends_line}
 
-pub data View (line : Line) (byte : ℕ) (bytes : List ℕ) : Front → Type 0 where
+pub data View (line : LinePrefix) (byte : ℕ) (bytes : List ℕ) : Prefix → Type 0 where
   view_newline : (byte == 10) ≡ true → View line byte bytes Newline
   view_white : is_white byte ≡ true → View line byte bytes WhiteSpace
   view_line : starts_with nat_eq (byte ∷ bytes) (codes "//") ≡ true → View line byte bytes (Comment (line_len (byte ∷ bytes)))
@@ -21,7 +21,7 @@ pub data View (line : Line) (byte : ℕ) (bytes : List ℕ) : Front → Type 0 w
       → View line byte bytes (Comment (2 + suc n))
   view_token : View line byte bytes (Token (token_at line (byte ∷ bytes)))
 
-seen : (line : Line) (byte : ℕ) (bytes : List ℕ) (newline white line_like block_like : Bool) (closing : ℕ)
+seen : (line : LinePrefix) (byte : ℕ) (bytes : List ℕ) (newline white line_like block_like : Bool) (closing : ℕ)
     → (byte == 10) ≡ newline → is_white byte ≡ white → starts_with nat_eq (byte ∷ bytes) (codes "//") ≡ line_like
     → starts_with nat_eq (byte ∷ bytes) (codes "/*") ≡ block_like → closing_len (drop 2 (byte ∷ bytes)) ≡ closing
     → View line byte bytes (cond newline Newline (cond white WhiteSpace (cond line_like (Comment (line_len (byte ∷ bytes)))
@@ -33,7 +33,7 @@ seen line byte bytes false false false true zero a b c d e = view_open
 seen line byte bytes false false false true (suc n) a b c d e = view_block n d e
 seen line byte bytes false false false false closing a b c d e = view_token
 
-pub view : (line : Line) (byte : ℕ) (bytes : List ℕ) → View line byte bytes (front line (byte ∷ bytes))
+pub view : (line : LinePrefix) (byte : ℕ) (bytes : List ℕ) → View line byte bytes (prefix line (byte ∷ bytes))
 view line byte bytes = seen line byte bytes _ _ _ _ _ refl refl refl refl refl
 
 -- lengths
@@ -82,10 +82,10 @@ plain-fits : (byte : ℕ) (bytes : List ℕ) (t : Bool) → nat_lt 0 (longest_to
 plain-fits byte bytes true e = (positive _ e, longest_token-within (byte ∷ bytes))
 plain-fits byte bytes false e = other-fits byte bytes
 
-header-fits : (line : Line) (byte : ℕ) (bytes : List ℕ) (t : Bool) → (is_include line && nat_lt 0 (longest is_header_name (byte ∷ bytes))) ≡ t
+header-fits : (line : LinePrefix) (byte : ℕ) (bytes : List ℕ) (t : Bool) → (is_include line && nat_lt 0 (longest is_header_name (byte ∷ bytes))) ≡ t
     → Fits (cond t (found HeaderName (longest is_header_name (byte ∷ bytes))) (cond (nat_lt 0 (longest_token (byte ∷ bytes)).len) (longest_token (byte ∷ bytes)) (other (byte ∷ bytes)))).len (length (byte ∷ bytes))
 header-fits line byte bytes true e = (positive _ (second (is_include line) _ e), longest-within is_header_name (byte ∷ bytes))
 header-fits line byte bytes false e = plain-fits byte bytes _ refl
 
-pub token_at-fits : (line : Line) (byte : ℕ) (bytes : List ℕ) → (0 < (token_at line (byte ∷ bytes)).len) × ((token_at line (byte ∷ bytes)).len ≤ length (byte ∷ bytes))
+pub token_at-fits : (line : LinePrefix) (byte : ℕ) (bytes : List ℕ) → (0 < (token_at line (byte ∷ bytes)).len) × ((token_at line (byte ∷ bytes)).len ≤ length (byte ∷ bytes))
 token_at-fits line byte bytes = header-fits line byte bytes _ refl

@@ -1,7 +1,7 @@
 -- A file has one cutting, so the answer that has it is the only one.
 use Rattle.std.proofs.Common.{◌≡◌, ℕ, false, List}
 use Rattle.std.specs.Prelude.{Result, Ok, Err, IfOk, IfErr}
-use Rattle.hv_toks.specs.declared.front.Line.TheVariants.{Start}
+use Rattle.hv_toks.specs.declared.prefix.LinePrefix.TheVariants.{Start}
 use Rattle.hv_toks.specs.declared.token.PpTok.{PpTok}
 use Rattle.hv_toks.specs.Cutting.{Cutting, Cuts, IsCut, tokens}
 use Rattle.hv_toks.specs.Splices.{spliced, offsets}

@@ -1,27 +1,27 @@
 -- A cursor, one byte on.
 use Rattle.std.proofs.Common.{◌≡◌, ℕ, zero, suc, ◌+◌, ◌-◌, ◌<◌, ◌≤◌, List, [], ◌∷◌, refl, sym, ◌∙◌, ap, arith, length, map, get_or, take, drop, ◌++◌, add-zero, Bor}
 use Rattle.std.proofs.lemmas.List.{take_rest, drop_more, drop_all, length-drop, length-map, drop-drop, drop-map, get_or-drop, take_more}
-use Rattle.hv_toks.specs.Splices.{Mark, kept, splice_len}
+use Rattle.hv_toks.specs.Splices.{Mark, marks_from, splice_len}
 use Rattle.hv_lexer.specs.declared.cursor.Cursor.{Cursor}
-use Rattle.hv_lexer.specs.Cursors.{marks_of, text_of, places_of}
-use Rattle.hv_lexer.proofs.Kept.{kept-step}
+use Rattle.hv_lexer.specs.working.Cursors.{marks_of, text_of, places_of}
+use Rattle.hv_lexer.proofs.SplicesLemmas.{marks_from-step}
 
 -- the cursor at this place of a file
 abbrev pub there : Bor (List ℕ) → ℕ → Cursor
 there bytes at = record { bytes = bytes; at = at }
 
-kept-first : (offset byte : ℕ) (bytes : List ℕ) → splice_len (byte ∷ bytes) ≡ 0
-    → kept 0 offset (byte ∷ bytes) ≡ record { byte = byte; offset = offset } ∷ kept 0 (offset + 1) bytes
-kept-first offset byte bytes e = rw (e, kept) refl
+marks_from-first : (offset byte : ℕ) (bytes : List ℕ) → splice_len (byte ∷ bytes) ≡ 0
+    → marks_from 0 offset (byte ∷ bytes) ≡ record { byte = byte; offset = offset } ∷ marks_from 0 (offset + 1) bytes
+marks_from-first offset byte bytes e = rw (e, marks_from) refl
 
-kept-later : (offset byte : ℕ) (bytes : List ℕ) (deleted : ℕ) → splice_len (byte ∷ bytes) ≡ suc deleted
-    → kept 0 offset (byte ∷ bytes) ≡ kept deleted (offset + 1) bytes
-kept-later offset byte bytes deleted e = rw (e, kept) refl
+marks_from-later : (offset byte : ℕ) (bytes : List ℕ) (deleted : ℕ) → splice_len (byte ∷ bytes) ≡ suc deleted
+    → marks_from 0 offset (byte ∷ bytes) ≡ marks_from deleted (offset + 1) bytes
+marks_from-later offset byte bytes deleted e = rw (e, marks_from) refl
 
 pub marks-splice : (bytes : Bor (List ℕ)) (at n : ℕ) → (n ≡ 0 → ⊥) → n ≡ splice_len (take (length bytes.now - at) (drop at bytes.now))
     → marks_of (there bytes at) ≡ marks_of (there bytes (at + n))
 unfolding marks_of
-marks-splice bytes at n some e = kept-step bytes.now at n some e
+marks-splice bytes at n some e = marks_from-step bytes.now at n some e
 
 pub marks-next : (bytes : Bor (List ℕ)) (at n : ℕ) → at < length bytes.now → n ≡ 0 → n ≡ splice_len (take (length bytes.now - at) (drop at bytes.now))
     → marks_of (there bytes at) ≡ record { byte = get_or bytes.now at 0; offset = at } ∷ marks_of (there bytes (at + 1))
@@ -29,7 +29,7 @@ unfolding marks_of
 marks-next bytes at n h none e =
     let shown = drop_more bytes.now at 0 h in
     let f : splice_len (drop at bytes.now) ≡ 0 = sym (rw take_rest at e) ∙ none in
-    rw shown (kept-first at (get_or bytes.now at 0) (drop (at + 1) bytes.now) (rw shown at f))
+    rw shown (marks_from-first at (get_or bytes.now at 0) (drop (at + 1) bytes.now) (rw shown at f))
 
 pub marks-end : (bytes : Bor (List ℕ)) (at : ℕ) → length bytes.now ≤ at → marks_of (there bytes at) ≡ []
 unfolding marks_of
@@ -37,20 +37,20 @@ marks-end bytes at h = rw (drop_all at bytes.now h) refl
 
 -- no more is left than there is
 
-kept-bounded : (deleted offset : ℕ) (bytes : List ℕ) → length (kept deleted offset bytes) ≤ length bytes
-kept-bounded zero offset [] = omega arith
-kept-bounded (suc deleted) offset [] = omega arith
-kept-bounded (suc deleted) offset (byte ∷ bytes) = let h = kept-bounded deleted (offset + 1) bytes in omega arith
-kept-bounded zero offset (byte ∷ bytes) =
-    elim (splice_len (byte ∷ bytes)) as (λ n. splice_len (byte ∷ bytes) ≡ n → length (kept 0 offset (byte ∷ bytes)) ≤ length (byte ∷ bytes)) [
-      | zero ↦ λ e. rw (kept-first offset byte bytes e) (let h = kept-bounded 0 (offset + 1) bytes in omega arith)
-      | suc deleted ↦ λ e. rw (kept-later offset byte bytes deleted e) (let h = kept-bounded deleted (offset + 1) bytes in omega arith)
+marks_from-bounded : (deleted offset : ℕ) (bytes : List ℕ) → length (marks_from deleted offset bytes) ≤ length bytes
+marks_from-bounded zero offset [] = omega arith
+marks_from-bounded (suc deleted) offset [] = omega arith
+marks_from-bounded (suc deleted) offset (byte ∷ bytes) = let h = marks_from-bounded deleted (offset + 1) bytes in omega arith
+marks_from-bounded zero offset (byte ∷ bytes) =
+    elim (splice_len (byte ∷ bytes)) as (λ n. splice_len (byte ∷ bytes) ≡ n → length (marks_from 0 offset (byte ∷ bytes)) ≤ length (byte ∷ bytes)) [
+      | zero ↦ λ e. rw (marks_from-first offset byte bytes e) (let h = marks_from-bounded 0 (offset + 1) bytes in omega arith)
+      | suc deleted ↦ λ e. rw (marks_from-later offset byte bytes deleted e) (let h = marks_from-bounded deleted (offset + 1) bytes in omega arith)
     ] refl
 
 pub text-bounded : (c : Cursor) → length (text_of c) ≤ length c.bytes.now - c.at
 unfolding marks_of text_of
 text-bounded c =
-    let h = kept-bounded 0 c.at (drop c.at c.bytes.now) in
+    let h = marks_from-bounded 0 c.at (drop c.at c.bytes.now) in
     rw length-map (omega (arith, length-drop c.at c.bytes.now))
 
 -- a walk over a list, `i` items on
@@ -90,9 +90,9 @@ pub place-none : (c : Cursor) → marks_of c ≡ [] → 0 ≡ get_or (places_of 
 unfolding places_of
 place-none c e = rw e refl
 
-pub places-behind : (c rest : Cursor) (n : ℕ) → marks_of rest ≡ drop n (marks_of c) → places_of rest ≡ drop n (places_of c)
+pub places-after : (c rest : Cursor) (n : ℕ) → marks_of rest ≡ drop n (marks_of c) → places_of rest ≡ drop n (places_of c)
 unfolding places_of
-places-behind c rest n e = ap (map (λ mark. mark.offset)) e ∙ sym (drop-map (λ (mark : Mark). mark.offset) n (marks_of c))
+places-after c rest n e = ap (map (λ mark. mark.offset)) e ∙ sym (drop-map (λ (mark : Mark). mark.offset) n (marks_of c))
 
 -- where the walk ends early there are no more
 pub text-short : (c rest : Cursor) (n : ℕ) → marks_of rest ≡ drop n (marks_of c) → marks_of rest ≡ [] → length (text_of c) ≤ n

@@ -1,6 +1,6 @@
 use Rattle.std.proofs.Common.{arith}
-use Rattle.hv_lexer.proofs.Cursors.{text-bounded}
-use Rattle.hv_lexer.proofs.front.other.Goals as goal
+use Rattle.hv_lexer.proofs.CursorsLemmas.{text-bounded}
+use Rattle.hv_lexer.proofs.prefix.other.Goals as goal
 
 pub overflow_add-len : goal.overflow_add-len
 overflow_add-len c = let h = text-bounded c.args.first.rest in omega arith

@@ -3,9 +3,9 @@ use Rattle.std.proofs.Common.{◌≡◌, ℕ, ◌+◌, ◌≤◌, true, false, L
 use Rattle.std.specs.Prelude.{nat_eq, codes}
 use Rattle.std.specs.List.{starts_with}
 use Rattle.hv_toks.specs.Cutting.{closing_len}
-use Rattle.hv_lexer.specs.Lengths.{one_more}
+use Rattle.hv_lexer.specs.working.Lengths.{one_more}
 use Rattle.hv_lexer.proofs.ByteTests.{not_both}
-use Rattle.hv_lexer.proofs.Longest.{shifted, shifted-more}
+use Rattle.hv_lexer.proofs.LongestLemmas.{shifted, shifted-more}
 
 closing-cons : (x : ℕ) (xs : List ℕ) → starts_with nat_eq (x ∷ xs) (codes "*/") ≡ false → closing_len (x ∷ xs) ≡ one_more (closing_len xs)
 closing-cons x xs e = rw e refl

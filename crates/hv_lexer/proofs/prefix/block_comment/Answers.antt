@@ -1,7 +1,7 @@
 use Rattle.std.proofs.Common.{ap, arith, length, length-drop}
-use Rattle.hv_lexer.specs.Cursors.{text_of}
-use Rattle.hv_lexer.proofs.Cursors.{text-bounded}
-use Rattle.hv_lexer.proofs.front.block_comment.Goals as goal
+use Rattle.hv_lexer.specs.working.Cursors.{text_of}
+use Rattle.hv_lexer.proofs.CursorsLemmas.{text-bounded}
+use Rattle.hv_lexer.proofs.prefix.block_comment.Goals as goal
 
 pub overflow_add-result : goal.overflow_add-result
 overflow_add-result c =

@@ -4,13 +4,13 @@ use Rattle.std.specs.Prelude.{nat_lt, Result, Ok, Err}
 use Rattle.std.specs.Str.{bytes_eq}
 use Rattle.std.proofs.lemmas.Bool.Decides.{nat_tests}
 use Rattle.std.proofs.lemmas.List.{take_at, drop_at}
-use Rattle.hv_toks.specs.declared.front.Front.TheVariants.{Token}
-use Rattle.hv_toks.specs.declared.front.Line.{Line}
-use Rattle.hv_toks.specs.declared.front.Line.TheVariants.{Start, Hash, Include, Rest}
-use Rattle.hv_toks.specs.declared.front.Match.{Match}
+use Rattle.hv_toks.specs.declared.prefix.Prefix.TheVariants.{Token}
+use Rattle.hv_toks.specs.declared.prefix.LinePrefix.{LinePrefix}
+use Rattle.hv_toks.specs.declared.prefix.LinePrefix.TheVariants.{Start, Hash, Include, Rest}
+use Rattle.hv_toks.specs.declared.prefix.Match.{Match}
 use Rattle.hv_toks.specs.declared.token.PpTok.{PpTok}
 use Rattle.hv_toks.specs.Splices.{spliced, offsets}
-use Rattle.hv_toks.specs.Cutting.{Cutting, Cuts, IsCut, tokens, at_end, at_white, at_newline, at_token, found, longest_token, token_at, front, behind, token}
+use Rattle.hv_toks.specs.Cutting.{Cutting, Cuts, IsCut, tokens, at_end, at_white, at_newline, at_token, found, longest_token, token_at, prefix, line_after, token}
 use Rattle.hv_lexer.specs.declared.refusal.LexRefusal.{LexRefusal}
 use Rattle.hv_lexer.specs.declared.refusal.LexRefusal.TheVariants.{OpenComment, Memory}
 use Rattle.hv_lexer.specs.Printed.{Piece, gap, spaced, IsPrintable, ArePrintable, Shows, Restores}
@@ -38,13 +38,13 @@ spaced_unspliced (piece ∷ pieces) h =
 
 -- no header name
 
-abbrev IsOutside : Line → Type 0
+abbrev IsOutside : LinePrefix → Type 0
 IsOutside Start = Unit {0}
 IsOutside Hash = ⊥
 IsOutside Include = ⊥
 IsOutside Rest = Unit {0}
 
-stays_outside : (line : Line) (text : List ℕ) → IsOutside line → not (bytes_eq text (codes "#")) ≡ true → IsOutside (behind line text)
+stays_outside : (line : LinePrefix) (text : List ℕ) → IsOutside line → not (bytes_eq text (codes "#")) ≡ true → IsOutside (line_after line text)
 stays_outside Start text o h = elim (bytes_eq text (codes "#")) as (λ t. not t ≡ true → IsOutside (cond t Hash Rest)) [
   | true ↦ λ e. absurd (cc)
   | false ↦ λ e. tt
@@ -56,7 +56,7 @@ stays_outside Rest text o h = tt
 positive : (n : ℕ) → 0 < n → nat_lt 0 n ≡ true
 positive n h = grind (arith, nat_tests)
 
-token_outside : (line : Line) (text : List ℕ) (m : Match) → IsOutside line → longest_token text ≡ m → 0 < m.len → token_at line text ≡ m
+token_outside : (line : LinePrefix) (text : List ℕ) (m : Match) → IsOutside line → longest_token text ≡ m → 0 < m.len → token_at line text ≡ m
 token_outside Start text m o e h = rw (e, positive m.len h) refl
 token_outside Hash text m o e h = absurd o
 token_outside Include text m o e h = absurd o
@@ -64,11 +64,11 @@ token_outside Rest text m o e h = rw (e, positive m.len h) refl
 
 -- a token, a gap, and the rest
 
-abbrev Printed : (file : ℕ) → Line → Bool → (text places : List ℕ) → List Piece → Type 0
+abbrev Printed : (file : ℕ) → LinePrefix → Bool → (text places : List ℕ) → List Piece → Type 0
 Printed file line space text places pieces = (toks : List PpTok) × (Cuts file line space text places (tokens toks) × Shows toks pieces)
 
-over_gap : (file : ℕ) (line : Line) (newline space : Bool) (rest places : List ℕ) (pieces : List Piece)
-    → ((next : Line) (spaced : Bool) (more : List ℕ) → IsOutside next → Printed file next spaced rest more pieces) → IsOutside line
+over_gap : (file : ℕ) (line : LinePrefix) (newline space : Bool) (rest places : List ℕ) (pieces : List Piece)
+    → ((next : LinePrefix) (spaced : Bool) (more : List ℕ) → IsOutside next → Printed file next spaced rest more pieces) → IsOutside line
     → Printed file line space (gap newline ∷ rest) places pieces
 over_gap file line true space rest places pieces deeper o =
     let r = deeper Start false (drop 1 places) tt in (r.0, (at_newline refl r.1.0, r.1.1))
@@ -79,23 +79,23 @@ shows_more : (tok : PpTok) (toks : List PpTok) (piece : Piece) (pieces : List Pi
     → Shows (tok ∷ toks) (piece ∷ pieces)
 shows_more tok toks piece pieces k t h = (rw (k, h.0) refl, rw (t, h.1) refl)
 
-over_token : (file : ℕ) (line : Line) (space : Bool) (piece : Piece) (rest places : List ℕ) (pieces : List Piece) → IsPrintable piece → IsOutside line
-    → ((next : Line) (spaced : Bool) (more : List ℕ) → IsOutside next → Printed file next spaced (gap piece.newline ∷ rest) more pieces)
+over_token : (file : ℕ) (line : LinePrefix) (space : Bool) (piece : Piece) (rest places : List ℕ) (pieces : List Piece) → IsPrintable piece → IsOutside line
+    → ((next : LinePrefix) (spaced : Bool) (more : List ℕ) → IsOutside next → Printed file next spaced (gap piece.newline ∷ rest) more pieces)
     → Printed file line space (piece.spelling ++ gap piece.newline ∷ rest) places (piece ∷ pieces)
 over_token file line space piece rest places pieces h o deeper =
     let p = piece_parts piece h in
     let n : ℕ = length piece.spelling in
     let text : List ℕ = piece.spelling ++ gap piece.newline ∷ rest in
     let m : Match = found piece.kind n in
-    let there : front line text ≡ Token m = p.begins line rest ∙ ap Token (token_outside line text m o (p.longest_here rest) p.some) in
+    let there : prefix line text ≡ Token m = p.begins line rest ∙ ap Token (token_outside line text m o (p.longest_here rest) p.some) in
     let taken : take n text ≡ piece.spelling = take_at piece.spelling (gap piece.newline ∷ rest) n refl in
     let left_over : drop n text ≡ gap piece.newline ∷ rest = drop_at piece.spelling (gap piece.newline ∷ rest) n refl in
-    let r = deeper (behind line piece.spelling) false (drop n places) (stays_outside line piece.spelling o h.1) in
-    let c : Cuts file (behind line (take n text)) false (drop n text) (drop n places) (tokens r.0) = rw (taken, left_over) r.1.0 in
+    let r = deeper (line_after line piece.spelling) false (drop n places) (stays_outside line piece.spelling o h.1) in
+    let c : Cuts file (line_after line (take n text)) false (drop n text) (drop n places) (tokens r.0) = rw (taken, left_over) r.1.0 in
     let tok : PpTok = token file line space piece.kind (take n text) (take n places) in
     (tok ∷ r.0, (at_token m there c, shows_more tok r.0 piece pieces refl taken r.1.1))
 
-printed : (file : ℕ) (line : Line) (space : Bool) (places : List ℕ) (pieces : List Piece) → ArePrintable pieces → IsOutside line
+printed : (file : ℕ) (line : LinePrefix) (space : Bool) (places : List ℕ) (pieces : List Piece) → ArePrintable pieces → IsOutside line
     → Printed file line space (spaced pieces) places pieces
 printed file line space places [] h o = ([], (at_end refl, (refl, refl)))
 printed file line space places (piece ∷ pieces) h o =

@@ -2,9 +2,9 @@
 
 ghost use Rattle.std.specs.Prelude.{◌≡◌, ◌≤◌, ◌<◌, length, IsTrue, codes, nat_eq};
 ghost use Rattle.std.specs.List.{starts_with};
-ghost use Rattle.hv_lexer.specs.Cursors.{text_of, text_from};
-ghost use Rattle.hv_lexer.specs.Fronts.{front_len, IsSome};
-ghost use Rattle.hv_toks.specs.Cutting.{longer, longest_token, other, token_at, block_comment, front};
+ghost use Rattle.hv_lexer.specs.working.Cursors.{text_of, text_from};
+ghost use Rattle.hv_lexer.specs.working.Prefixes.{len_of, IsSome};
+ghost use Rattle.hv_toks.specs.Cutting.{longer, longest_token, other, token_at, block_comment, prefix};
 
 use crate::category::{
     char_constant_len, header_name_len, identifier_len, number_len, string_literal_len,
@@ -12,7 +12,7 @@ use crate::category::{
 use crate::cursor::{Cursor, Next};
 use crate::gap::{closing_len, is_white, line_len};
 use crate::punctuator::punctuator_len;
-use hv_toks::{Front, Line, Match, PpKind};
+use hv_toks::{Prefix, LinePrefix, Match, PpKind};
 
 fn longer(a: Match, b: Match) -> Match
     ensures { result ≡ longer a b }
@@ -70,12 +70,12 @@ fn other(first: Next) -> Match
     }
 }
 
-fn token_at(line: Line, first: Next) -> Match
+fn token_at(line: LinePrefix, first: Next) -> Match
     ensures value { result ≡ token_at line (text_from first.entry) }
     ensures within { result.len ≤ length (text_from first.entry) }
     ensures some { 0 < result.len }
 {
-    if let Line::Include = line {
+    if let LinePrefix::Include = line {
         let len = header_name_len(first);
         if 0 < len {
             return Match {
@@ -89,38 +89,38 @@ fn token_at(line: Line, first: Next) -> Match
 }
 
 /// The comment that the text begins with.
-fn block_comment(text: Cursor) -> Front
+fn block_comment(text: Cursor) -> Prefix
     requires { 2 ≤ length (text_of text) }
     ensures value { result ≡ block_comment (text_of text.entry) }
-    ensures within { front_len result ≤ length (text_of text.entry) }
-    ensures some { 0 < front_len result }
+    ensures within { len_of result ≤ length (text_of text.entry) }
+    ensures some { 0 < len_of result }
 {
     let len = closing_len(text.skip(2));
     if len == 0 {
-        Front::OpenComment
+        Prefix::OpenComment
     } else {
-        Front::Comment(2 + len)
+        Prefix::Comment(2 + len)
     }
 }
 
 /// What the text begins with.
-pub(crate) fn front(line: Line, text: Cursor) -> Front
-    ensures value { result ≡ front line (text_of text.entry) }
-    ensures within { front_len result ≤ length (text_of text.entry) }
+pub(crate) fn prefix(line: LinePrefix, text: Cursor) -> Prefix
+    ensures value { result ≡ prefix line (text_of text.entry) }
+    ensures within { len_of result ≤ length (text_of text.entry) }
     ensures some { IsSome result }
 {
     let Some(first) = text.next() else {
-        return Front::End;
+        return Prefix::End;
     };
     if first.byte == b'\n' {
-        Front::Newline
+        Prefix::Newline
     } else if is_white(first.byte) {
-        Front::WhiteSpace
+        Prefix::WhiteSpace
     } else if first.begins(b'/', b'/') {
-        Front::Comment(line_len(text))
+        Prefix::Comment(line_len(text))
     } else if first.begins(b'/', b'*') {
         block_comment(text)
     } else {
-        Front::Token(token_at(line, first))
+        Prefix::Token(token_at(line, first))
     }
 }

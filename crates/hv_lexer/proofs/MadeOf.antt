@@ -3,26 +3,26 @@ use Rattle.std.proofs.Common.{◌≡◌, ℕ, zero, suc, ◌+◌, Bool, true, fa
 use Rattle.std.specs.Prelude.{nat_eq, ◌==◌, not, codes, slice_index}
 use Rattle.std.specs.List.{starts_with, list_all}
 use Rattle.std.proofs.lemmas.List.{take-append-drop, length-take, length-append}
-use Rattle.hv_toks.specs.declared.front.Front.{Front}
-use Rattle.hv_toks.specs.declared.front.Front.TheVariants.{End, WhiteSpace, Newline, Comment}
-use Rattle.hv_toks.specs.declared.front.Line.{Line}
+use Rattle.hv_toks.specs.declared.prefix.Prefix.{Prefix}
+use Rattle.hv_toks.specs.declared.prefix.Prefix.TheVariants.{End, WhiteSpace, Newline, Comment}
+use Rattle.hv_toks.specs.declared.prefix.LinePrefix.{LinePrefix}
 use Rattle.hv_toks.specs.declared.token.PpTok.{PpTok}
 use Rattle.hv_toks.specs.Splices.{spliced, offsets}
-use Rattle.hv_toks.specs.Cutting.{Cutting, Cuts, IsCut, tokens, open_comment, prepend, at_end, at_white, at_newline, at_comment, at_open_comment, at_token, front, is_white, ends_line, line_len, closing_len}
+use Rattle.hv_toks.specs.Cutting.{Cutting, Cuts, IsCut, tokens, open_comment, prepend, at_end, at_white, at_newline, at_comment, at_open_comment, at_token, prefix, is_white, ends_line, line_len, closing_len}
 use Rattle.hv_lexer.specs.Laws.{IsLineComment, IsBlockComment, IsGap, nothing, white, line_comment, block_comment, IsParted, Parted, last, next}
-use Rattle.hv_lexer.proofs.Rising.{dropped, same_lengths}
+use Rattle.hv_lexer.proofs.Rises.{dropped, same_lengths}
 use Rattle.hv_lexer.proofs.Spliced.{is_spliced}
 use Rattle.hv_lexer.proofs.ByteTests.{not_both, never_both, two, or-left, or-right, first_fails, other_way}
-use Rattle.hv_lexer.proofs.Views.{View, view, view_newline, view_white, view_line, view_open, view_block, view_token}
+use Rattle.hv_lexer.proofs.PrefixCases.{View, view, view_newline, view_white, view_line, view_open, view_block, view_token}
 
--- a text with more in front
-behind : (front fronts : List ℕ) {toks : List PpTok} {rest more : List ℕ} → length front ≡ length fronts → ((gap : List ℕ) → IsGap gap → IsGap (front ++ gap))
-    → Parted toks rest more → Parted toks (front ++ rest) (fronts ++ more)
-behind front fronts same extend (last g) = last (extend _ g)
-behind front fronts same extend (next tok gap rest before here more g len a b c p) =
-    let both : length (front ++ gap) ≡ length (fronts ++ before) = simp length-append (omega arith) in
-    rw (← append_assoc front gap (tok.text ++ rest), ← append_assoc fronts before (here ++ more))
-    (next tok (front ++ gap) rest (fronts ++ before) here more (extend gap g) both a b c p)
+-- a text with more before it
+extended : (prefix prefixes : List ℕ) {toks : List PpTok} {rest more : List ℕ} → length prefix ≡ length prefixes → ((gap : List ℕ) → IsGap gap → IsGap (prefix ++ gap))
+    → Parted toks rest more → Parted toks (prefix ++ rest) (prefixes ++ more)
+extended prefix prefixes same extend (last g) = last (extend _ g)
+extended prefix prefixes same extend (next tok gap rest before here more g len a b c p) =
+    let both : length (prefix ++ gap) ≡ length (prefixes ++ before) = simp length-append (omega arith) in
+    rw (← append_assoc prefix gap (tok.text ++ rest), ← append_assoc prefixes before (here ++ more))
+    (next tok (prefix ++ gap) rest (prefixes ++ before) here more (extend gap g) both a b c p)
 
 pub same_take : (n : ℕ) (text places : List ℕ) → length text ≡ length places → length (take n text) ≡ length (take n places)
 same_take n text places same = simp length-take (rw same refl)
@@ -30,7 +30,7 @@ same_take n text places same = simp length-take (rw same refl)
 gapped : (n : ℕ) (text places : List ℕ) (toks : List PpTok) → length text ≡ length places → ((gap : List ℕ) → IsGap gap → IsGap (take n text ++ gap))
     → Parted toks (drop n text) (drop n places) → Parted toks text places
 gapped n text places toks same extend p =
-    let whole = behind (take n text) (take n places) (same_take n text places same) extend p in
+    let whole = extended (take n text) (take n places) (same_take n text places same) extend p in
     rw take-append-drop at (rw take-append-drop at whole)
 
 no_line_end : (byte : ℕ) (bytes : List ℕ) → ends_line (byte ∷ bytes) ≡ false → (byte == 10) ≡ false
@@ -38,7 +38,7 @@ no_line_end byte bytes e = other_way 10 byte (first_fails _ _ e)
 
 -- cases
 
-no_end : (line : Line) (byte : ℕ) (bytes : List ℕ) (f : Front) → View line byte bytes f → f ≡ End → byte ∷ bytes ≡ []
+no_end : (line : LinePrefix) (byte : ℕ) (bytes : List ℕ) (f : Prefix) → View line byte bytes f → f ≡ End → byte ∷ bytes ≡ []
 no_end line byte bytes f (view_newline a) e = cc
 no_end line byte bytes f (view_white a) e = cc
 no_end line byte bytes f (view_line a) e = cc
@@ -46,7 +46,7 @@ no_end line byte bytes f view_open e = cc
 no_end line byte bytes f (view_block k a b) e = cc
 no_end line byte bytes f view_token e = cc
 
-of_white : (line : Line) (byte : ℕ) (bytes : List ℕ) (f : Front) → View line byte bytes f → f ≡ WhiteSpace → is_white byte ≡ true
+of_white : (line : LinePrefix) (byte : ℕ) (bytes : List ℕ) (f : Prefix) → View line byte bytes f → f ≡ WhiteSpace → is_white byte ≡ true
 of_white line byte bytes f (view_newline a) e = cc
 of_white line byte bytes f (view_white a) e = a
 of_white line byte bytes f (view_line a) e = cc
@@ -54,7 +54,7 @@ of_white line byte bytes f view_open e = cc
 of_white line byte bytes f (view_block k a b) e = cc
 of_white line byte bytes f view_token e = cc
 
-of_newline : (line : Line) (byte : ℕ) (bytes : List ℕ) (f : Front) → View line byte bytes f → f ≡ Newline → (byte == 10) ≡ true
+of_newline : (line : LinePrefix) (byte : ℕ) (bytes : List ℕ) (f : Prefix) → View line byte bytes f → f ≡ Newline → (byte == 10) ≡ true
 of_newline line byte bytes f (view_newline a) e = a
 of_newline line byte bytes f (view_white a) e = cc
 of_newline line byte bytes f (view_line a) e = cc
@@ -146,7 +146,7 @@ is_block_comment : (byte : ℕ) (bytes : List ℕ) (n : ℕ) → starts_with nat
     → IsBlockComment (take (2 + suc n) (byte ∷ bytes))
 is_block_comment byte bytes n e f = let p = block_comment-shape byte bytes e in block_comment-of (byte ∷ bytes) p.0 n p.1 f
 
-of_comment : (line : Line) (byte : ℕ) (bytes : List ℕ) (f : Front) (n : ℕ) → View line byte bytes f → f ≡ Comment n → IsLineComment (take n (byte ∷ bytes)) ⊎ IsBlockComment (take n (byte ∷ bytes))
+of_comment : (line : LinePrefix) (byte : ℕ) (bytes : List ℕ) (f : Prefix) (n : ℕ) → View line byte bytes f → f ≡ Comment n → IsLineComment (take n (byte ∷ bytes)) ⊎ IsBlockComment (take n (byte ∷ bytes))
 of_comment line byte bytes f n (view_newline a) e = absurd (cc)
 of_comment line byte bytes f n (view_white a) e = absurd (cc)
 of_comment line byte bytes f n (view_line a) e = let p : line_len (byte ∷ bytes) ≡ n = cc in inl (rw p at (is_line_comment byte bytes a))
@@ -154,26 +154,26 @@ of_comment line byte bytes f n view_open e = absurd (cc)
 of_comment line byte bytes f n (view_block k a b) e = let p : 2 + suc k ≡ n = cc in inr (rw p at (is_block_comment byte bytes k a b))
 of_comment line byte bytes f n view_token e = absurd (cc)
 
--- the fronts of a text
+-- the prefixes of a text
 
 abbrev Extends : List ℕ → Type 0
-Extends front = (gap : List ℕ) → IsGap gap → IsGap (front ++ gap)
+Extends prefix = (gap : List ℕ) → IsGap gap → IsGap (prefix ++ gap)
 
-front-end : (line : Line) (text : List ℕ) → front line text ≡ End → text ≡ []
-front-end line [] e = refl
-front-end line (byte ∷ bytes) e = no_end line byte bytes _ (view line byte bytes) e
+prefix-end : (line : LinePrefix) (text : List ℕ) → prefix line text ≡ End → text ≡ []
+prefix-end line [] e = refl
+prefix-end line (byte ∷ bytes) e = no_end line byte bytes _ (view line byte bytes) e
 
-front-white : (line : Line) (text : List ℕ) → front line text ≡ WhiteSpace → Extends (take 1 text)
-front-white line [] e = absurd (cc)
-front-white line (byte ∷ bytes) e = λ gap g. white (or-left _ _ (of_white line byte bytes _ (view line byte bytes) e)) g
+prefix-white : (line : LinePrefix) (text : List ℕ) → prefix line text ≡ WhiteSpace → Extends (take 1 text)
+prefix-white line [] e = absurd (cc)
+prefix-white line (byte ∷ bytes) e = λ gap g. white (or-left _ _ (of_white line byte bytes _ (view line byte bytes) e)) g
 
-front-newline : (line : Line) (text : List ℕ) → front line text ≡ Newline → Extends (take 1 text)
-front-newline line [] e = absurd (cc)
-front-newline line (byte ∷ bytes) e = λ gap g. white (or-right _ _ (of_newline line byte bytes _ (view line byte bytes) e)) g
+prefix-newline : (line : LinePrefix) (text : List ℕ) → prefix line text ≡ Newline → Extends (take 1 text)
+prefix-newline line [] e = absurd (cc)
+prefix-newline line (byte ∷ bytes) e = λ gap g. white (or-right _ _ (of_newline line byte bytes _ (view line byte bytes) e)) g
 
-front-comment : (line : Line) (text : List ℕ) (n : ℕ) → front line text ≡ Comment n → Extends (take n text)
-front-comment line [] n e = absurd (cc)
-front-comment line (byte ∷ bytes) n e =
+prefix-comment : (line : LinePrefix) (text : List ℕ) (n : ℕ) → prefix line text ≡ Comment n → Extends (take n text)
+prefix-comment line [] n e = absurd (cc)
+prefix-comment line (byte ∷ bytes) n e =
     elim (of_comment line byte bytes _ n (view line byte bytes) e) [
       | inl is_line ↦ λ gap g. line_comment (take n (byte ∷ bytes)) gap is_line g
       | inr is_block ↦ λ gap g. block_comment (take n (byte ∷ bytes)) gap is_block g
@@ -198,11 +198,11 @@ with_token n text places tok (tokens toks) same e a b p =
     rw (t, take-append-drop n places) at whole
 with_token n text places tok (open_comment offset) same e a b p = tt
 
-parts : {file : ℕ} {line : Line} {space : Bool} {text places : List ℕ} {out : Cutting} → length text ≡ length places → Cuts file line space text places out → Parts text places out
-parts {line = line} {text = text} same (at_end e) = rw (front-end line text e) (last nothing)
-parts {line = line} {text = text} {places = places} same (at_white e c) = grown 1 text places _ same (front-white line text e) (parts (dropped 1 text places same) c)
-parts {line = line} {text = text} {places = places} same (at_newline e c) = grown 1 text places _ same (front-newline line text e) (parts (dropped 1 text places same) c)
-parts {line = line} {text = text} {places = places} same (at_comment n e c) = grown n text places _ same (front-comment line text n e) (parts (dropped n text places same) c)
+parts : {file : ℕ} {line : LinePrefix} {space : Bool} {text places : List ℕ} {out : Cutting} → length text ≡ length places → Cuts file line space text places out → Parts text places out
+parts {line = line} {text = text} same (at_end e) = rw (prefix-end line text e) (last nothing)
+parts {line = line} {text = text} {places = places} same (at_white e c) = grown 1 text places _ same (prefix-white line text e) (parts (dropped 1 text places same) c)
+parts {line = line} {text = text} {places = places} same (at_newline e c) = grown 1 text places _ same (prefix-newline line text e) (parts (dropped 1 text places same) c)
+parts {line = line} {text = text} {places = places} same (at_comment n e c) = grown n text places _ same (prefix-comment line text n e) (parts (dropped n text places same) c)
 parts same (at_open_comment e) = tt
 parts {text = text} {places = places} same (at_token m e c) = with_token m.len text places _ _ same refl refl refl (parts (dropped m.len text places same) c)
 

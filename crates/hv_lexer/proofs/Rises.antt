@@ -1,16 +1,16 @@
 -- The spans of a cutting rise.
 use Rattle.std.proofs.Common.{◌≡◌, ℕ, zero, suc, ◌+◌, ◌-◌, ◌<◌, ◌≤◌, Bool, List, [], ◌∷◌, refl, sym, ◌∙◌, arith, length, get_or, take, drop}
 use Rattle.std.proofs.lemmas.List.{length-take-le, get_or-take, length-drop, length-map}
-use Rattle.hv_toks.specs.declared.front.Front.{Front}
-use Rattle.hv_toks.specs.declared.front.Front.TheVariants.{Token}
-use Rattle.hv_toks.specs.declared.front.Line.{Line}
-use Rattle.hv_toks.specs.declared.front.Match.{Match}
+use Rattle.hv_toks.specs.declared.prefix.Prefix.{Prefix}
+use Rattle.hv_toks.specs.declared.prefix.Prefix.TheVariants.{Token}
+use Rattle.hv_toks.specs.declared.prefix.LinePrefix.{LinePrefix}
+use Rattle.hv_toks.specs.declared.prefix.Match.{Match}
 use Rattle.hv_toks.specs.declared.token.PpTok.{PpTok}
-use Rattle.hv_toks.specs.Splices.{kept, offsets, splice_len, spliced}
-use Rattle.hv_toks.specs.Cutting.{Cutting, Cuts, IsCut, tokens, open_comment, prepend, at_end, at_white, at_newline, at_comment, at_open_comment, at_token, front, token, token_at}
+use Rattle.hv_toks.specs.Splices.{marks_from, offsets, splice_len, spliced}
+use Rattle.hv_toks.specs.Cutting.{Cutting, Cuts, IsCut, tokens, open_comment, prepend, at_end, at_white, at_newline, at_comment, at_open_comment, at_token, prefix, token, token_at}
 use Rattle.hv_lexer.specs.Laws.{Rise}
-use Rattle.hv_lexer.proofs.Kept.{places, places-shown}
-use Rattle.hv_lexer.proofs.Views.{View, view, view_newline, view_white, view_line, view_open, view_block, view_token, token_at-fits}
+use Rattle.hv_lexer.proofs.SplicesLemmas.{places, places-shown}
+use Rattle.hv_lexer.proofs.PrefixCases.{View, view, view_newline, view_white, view_line, view_open, view_block, view_token, token_at-fits}
 
 -- offsets that rise from `low` to below `high`
 abbrev pub Rising : (low high : ℕ) → List ℕ → Type 0
@@ -27,13 +27,13 @@ rising-drop low high (suc n) [] r = r
 rising-drop low high (suc n) (p ∷ ps) r = lower low (p + 1) high (drop n ps) (omega arith) (rising-drop (p + 1) high n ps r.1)
 
 -- the first n + 1 offsets, and the others
-rising-front : (low high n : ℕ) (ps : List ℕ) → suc n ≤ length ps → Rising low high ps
+rising-prefix : (low high n : ℕ) (ps : List ℕ) → suc n ≤ length ps → Rising low high ps
     → (low ≤ get_or ps 0 0) × (get_or ps 0 0 ≤ get_or ps n 0) × Rising (get_or ps n 0 + 1) high (drop (suc n) ps)
-rising-front low high n [] h r = absurd (omega arith)
-rising-front low high zero (p ∷ ps) h r = (r.0, omega arith, r.1)
-rising-front low high (suc n) (p ∷ []) h r = absurd (omega arith)
-rising-front low high (suc n) (p ∷ q ∷ ps) h r =
-    let more = rising-front (p + 1) high n (q ∷ ps) (omega arith) r.1 in
+rising-prefix low high n [] h r = absurd (omega arith)
+rising-prefix low high zero (p ∷ ps) h r = (r.0, omega arith, r.1)
+rising-prefix low high (suc n) (p ∷ []) h r = absurd (omega arith)
+rising-prefix low high (suc n) (p ∷ q ∷ ps) h r =
+    let more = rising-prefix (p + 1) high n (q ∷ ps) (omega arith) r.1 in
     (r.0, omega arith, more.2)
 
 longer-file : (offset byte : ℕ) (bytes ps : List ℕ) → Rising (offset + 1) (offset + 1 + length bytes) ps → Rising (offset + 1) (offset + length (byte ∷ bytes)) ps
@@ -66,7 +66,7 @@ rises-end : (file low high : ℕ) (ps : List ℕ) → Rising low high ps → low
 rises-end file low high [] r = r
 rises-end file low high (p ∷ ps) r = let more = rises-end file (p + 1) high ps r.1 in omega arith
 
-of_view : (line : Line) (byte : ℕ) (bytes : List ℕ) (f : Front) (m : Match) → View line byte bytes f → f ≡ Token m → (0 < m.len) × (m.len ≤ length (byte ∷ bytes))
+of_view : (line : LinePrefix) (byte : ℕ) (bytes : List ℕ) (f : Prefix) (m : Match) → View line byte bytes f → f ≡ Token m → (0 < m.len) × (m.len ≤ length (byte ∷ bytes))
 of_view line byte bytes f m (view_newline a) e = cc
 of_view line byte bytes f m (view_white a) e = cc
 of_view line byte bytes f m (view_line a) e = cc
@@ -74,9 +74,9 @@ of_view line byte bytes f m view_open e = cc
 of_view line byte bytes f m (view_block n a b) e = cc
 of_view line byte bytes f m view_token e = let p : token_at line (byte ∷ bytes) ≡ m = cc in rw p at (token_at-fits line byte bytes)
 
-pub token-fits : (line : Line) (text : List ℕ) (m : Match) → front line text ≡ Token m → (0 < m.len) × (m.len ≤ length text)
+pub token-fits : (line : LinePrefix) (text : List ℕ) (m : Match) → prefix line text ≡ Token m → (0 < m.len) × (m.len ≤ length text)
 token-fits line [] m e = absurd (cc)
-token-fits line (byte ∷ bytes) m e = of_view line byte bytes (front line (byte ∷ bytes)) m (view line byte bytes) e
+token-fits line (byte ∷ bytes) m e = of_view line byte bytes (prefix line (byte ∷ bytes)) m (view line byte bytes) e
 
 abbrev last-place : List ℕ → ℕ
 last-place ps = get_or ps (length ps - 1) 0
@@ -90,18 +90,18 @@ pub taken-first : (n : ℕ) (ps : List ℕ) → get_or (take (suc n) ps) 0 0 ≡
 taken-first n [] = refl
 taken-first n (p ∷ ps) = refl
 
-rises-token : (file low high : ℕ) (line : Line) (space : Bool) (text ps : List ℕ) (m : Match) (n : ℕ) (out : Cutting) → m.len ≡ suc n → suc n ≤ length ps → Rising low high ps
+rises-token : (file low high : ℕ) (line : LinePrefix) (space : Bool) (text ps : List ℕ) (m : Match) (n : ℕ) (out : Cutting) → m.len ≡ suc n → suc n ≤ length ps → Rising low high ps
     → ((next : ℕ) → Rising next high (drop (suc n) ps) → Rises file next high out)
     → Rises file low high (prepend (token file line space m.kind (take m.len text) (take m.len ps)) out)
 rises-token file low high line space text ps m n (open_comment offset) e h r more = tt
 rises-token file low high line space text ps m n (tokens toks) e h r more =
-    let front = rising-front low high n ps h r in
-    rw (e, taken-first n ps, taken-last n ps h) (refl, front.0, omega arith, more (get_or ps n 0 + 1) front.2)
+    let prefix = rising-prefix low high n ps h r in
+    rw (e, taken-first n ps, taken-last n ps h) (refl, prefix.0, omega arith, more (get_or ps n 0 + 1) prefix.2)
 
 pub dropped : (n : ℕ) (xs ys : List ℕ) → length xs ≡ length ys → length (drop n xs) ≡ length (drop n ys)
 dropped n xs ys e = simp length-drop (rw e refl)
 
-pub rises : (file low high : ℕ) {line : Line} {space : Bool} {text ps : List ℕ} {out : Cutting} → length text ≡ length ps → Rising low high ps
+pub rises : (file low high : ℕ) {line : LinePrefix} {space : Bool} {text ps : List ℕ} {out : Cutting} → length text ≡ length ps → Rising low high ps
     → Cuts file line space text ps out → Rises file low high out
 rises file low high {text = text} {ps = ps} same r (at_end e) = rises-end file low high ps r
 rises file low high {text = text} {ps = ps} same r (at_white e c) = rises file low high (dropped 1 text ps same) (rising-drop low high 1 ps r) c
@@ -116,7 +116,7 @@ rises file low high {line = line} {space = space} {text = text} {ps = ps} same r
     (λ next rest. rises file next high (dropped m.len text ps same) (rw (← len) at rest) c)
 
 pub same_lengths : (bytes : List ℕ) → length (spliced bytes) ≡ length (offsets bytes)
-same_lengths bytes = length-map (kept 0 0 bytes) (λ mark. mark.byte) ∙ sym (length-map (kept 0 0 bytes) (λ mark. mark.offset))
+same_lengths bytes = length-map (marks_from 0 0 bytes) (λ mark. mark.byte) ∙ sym (length-map (marks_from 0 0 bytes) (λ mark. mark.offset))
 
 pub lex-rises : (file : ℕ) (bytes : List ℕ) (toks : List PpTok) → IsCut file bytes (tokens toks) → Rise file 0 (length bytes) toks
 lex-rises file bytes toks c =

@@ -1,12 +1,12 @@
--- The longest fronts of the categories, byte by byte.
+-- The longest prefixes of the categories, byte by byte.
 use Rattle.std.proofs.Common.{◌≡◌, ℕ, zero, suc, ◌+◌, ◌<◌, ◌≤◌, Bool, true, false, not, List, [], ◌∷◌, cond, refl, sym, ◌∙◌, ap, arith, length, take}
 use Rattle.std.specs.Prelude.{◌&&◌, ◌||◌, ◌==◌}
 use Rattle.std.specs.List.{list_all, prefix_len}
 use Rattle.std.proofs.lemmas.Bool.Decides.{nat_tests}
 use Rattle.hv_toks.specs.Lexical.{longest, optional, is_nondigit, is_digit, is_word_byte, is_identifier, is_exponent, is_sign, continues_number, begins_with_digit, is_number, is_empty, closes, is_quoted, is_enclosed, is_header_name}
-use Rattle.hv_lexer.specs.Lengths.{IsLongest, one_more}
+use Rattle.hv_lexer.specs.working.Lengths.{IsLongest, one_more}
 
--- the length behind one more byte, where `alone` says that the byte is a front by itself
+-- the length after one more byte, where `alone` says that the byte is a prefix by itself
 abbrev pub shift : Bool → ℕ → ℕ
 shift alone n = elim n [ zero ↦ cond alone 1 0 | suc more ↦ suc (suc more) ]
 
@@ -106,7 +106,7 @@ longest-number_rest exponent (x ∷ xs) =
 pub digits-no : (x : ℕ) (xs : List ℕ) → is_digit x ≡ false → longest begins_with_digit (x ∷ xs) ≡ 0
 digits-no x xs e = gate-no (is_digit x) (continues_number false) xs e
 
--- an optional byte in front
+-- an optional byte before
 
 no-second : (a t b : Bool) → t ≡ false → (a || (t && b)) ≡ a
 no-second true t b e = refl
@@ -174,7 +174,7 @@ number-stop exponent x xs e = rw e refl
 
 -- a loop to a closing quote
 
--- the length of a front that `i` bytes stand before
+-- the length of a prefix that `i` bytes stand before
 abbrev pub shifted : ℕ → ℕ → ℕ
 shifted i zero = 0
 shifted i (suc n) = i + suc n

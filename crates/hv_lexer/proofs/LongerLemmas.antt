@@ -2,10 +2,10 @@
 use Rattle.std.proofs.Common.{◌≡◌, ℕ, ◌<◌, ◌≤◌, true, false, refl, arith}
 use Rattle.std.specs.Prelude.{nat_lt}
 use Rattle.std.proofs.lemmas.Bool.Decides.{nat_tests}
-use Rattle.hv_toks.specs.declared.front.Match.{Match}
+use Rattle.hv_toks.specs.declared.prefix.Match.{Match}
 use Rattle.hv_toks.specs.declared.token.PpKind.TheVariants.{Identifier, Number, CharConstant, StringLiteral, Punctuator}
 use Rattle.hv_toks.specs.Cutting.{found, longer}
-use Rattle.hv_lexer.proofs.Views.{longer-within}
+use Rattle.hv_lexer.proofs.PrefixCases.{longer-within}
 
 abbrev pub best : (i n c s p : ℕ) → Match
 best i n c s p = longer (found Identifier i) (longer (found Number n) (longer (found CharConstant c) (longer (found StringLiteral s) (found Punctuator p))))
