@@ -1,2 +1,3 @@
+pub mod ConstantsLemmas
 mod Examples
 pub mod Unique

@@ -3,12 +3,14 @@
 #![tactic(auto)]
 
 mod prefix;
+mod constants;
 mod macros;
 mod parted;
 mod stream;
 mod token;
 
 pub use prefix::{Prefix, LinePrefix, Match};
+pub use constants::{Integer, Rank, read_char_constant, read_integer};
 pub use hv_base::{CTok, IntType, Keyword, Punct};
 pub use macros::{Body, Meaning};
 pub use parted::{Failing, Parted};
