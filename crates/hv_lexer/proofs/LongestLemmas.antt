@@ -3,7 +3,8 @@ use Rattle.std.proofs.Common.{◌≡◌, ℕ, zero, suc, ◌+◌, ◌<◌, ◌�
 use Rattle.std.specs.Prelude.{◌&&◌, ◌||◌, ◌==◌}
 use Rattle.std.specs.List.{list_all, prefix_len}
 use Rattle.std.proofs.lemmas.Bool.Decides.{nat_tests}
-use Rattle.hv_toks.specs.Lexical.{longest, optional, is_nondigit, is_digit, is_word_byte, is_identifier, is_exponent, is_sign, continues_number, begins_with_digit, is_number, is_empty, closes, is_quoted, is_enclosed, is_header_name}
+use Rattle.hv_base.specs.Ascii.{is_digit, is_identifier_byte, is_nondigit}
+use Rattle.hv_toks.specs.Lexical.{longest, optional, is_identifier, is_exponent, is_sign, continues_number, begins_with_digit, is_number, is_empty, closes, is_quoted, is_enclosed, is_header_name}
 use Rattle.hv_lexer.specs.working.Lengths.{IsLongest, one_more}
 
 -- the length after one more byte, where `alone` says that the byte is a prefix by itself
@@ -80,16 +81,16 @@ longest-from p xs n e = rw e (longest-is p xs)
 
 -- identifiers
 
-pub identifier-yes : (x : ℕ) (xs : List ℕ) → is_nondigit x ≡ true → longest is_identifier (x ∷ xs) ≡ 1 + prefix_len is_word_byte xs
-identifier-yes x xs e = gate-yes (is_nondigit x) (list_all is_word_byte) xs e ∙ (ap (shift true) (longest-all is_word_byte xs) ∙ shift-true (prefix_len is_word_byte xs))
+pub identifier-yes : (x : ℕ) (xs : List ℕ) → is_nondigit x ≡ true → longest is_identifier (x ∷ xs) ≡ 1 + prefix_len is_identifier_byte xs
+identifier-yes x xs e = gate-yes (is_nondigit x) (list_all is_identifier_byte) xs e ∙ (ap (shift true) (longest-all is_identifier_byte xs) ∙ shift-true (prefix_len is_identifier_byte xs))
 
 pub identifier-no : (x : ℕ) (xs : List ℕ) → is_nondigit x ≡ false → longest is_identifier (x ∷ xs) ≡ 0
-identifier-no x xs e = gate-no (is_nondigit x) (list_all is_word_byte) xs e
+identifier-no x xs e = gate-no (is_nondigit x) (list_all is_identifier_byte) xs e
 
 -- numbers
 
 abbrev pub may_continue : Bool → ℕ → Bool
-may_continue exponent byte = is_word_byte byte || byte == 46 || (exponent && is_sign byte)
+may_continue exponent byte = is_identifier_byte byte || byte == 46 || (exponent && is_sign byte)
 
 abbrev pub number_rest_len : Bool → List ℕ → ℕ
 number_rest_len exponent [] = 0

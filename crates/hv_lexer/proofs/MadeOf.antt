@@ -3,12 +3,13 @@ use Rattle.std.proofs.Common.{◌≡◌, ℕ, zero, suc, ◌+◌, Bool, true, fa
 use Rattle.std.specs.Prelude.{nat_eq, ◌==◌, not, codes, slice_index}
 use Rattle.std.specs.List.{starts_with, list_all}
 use Rattle.std.proofs.lemmas.List.{take-append-drop, length-take, length-append}
+use Rattle.hv_base.specs.Ascii.{is_line_space}
 use Rattle.hv_toks.specs.declared.prefix.Prefix.{Prefix}
 use Rattle.hv_toks.specs.declared.prefix.Prefix.TheVariants.{End, WhiteSpace, Newline, Comment}
 use Rattle.hv_toks.specs.declared.prefix.LinePrefix.{LinePrefix}
 use Rattle.hv_toks.specs.declared.token.PpTok.{PpTok}
 use Rattle.hv_toks.specs.Splices.{spliced, offsets}
-use Rattle.hv_toks.specs.Cutting.{Cutting, Cuts, IsCut, tokens, open_comment, prepend, at_end, at_white, at_newline, at_comment, at_open_comment, at_token, prefix, is_white, ends_line, line_len, closing_len}
+use Rattle.hv_toks.specs.Cutting.{Cutting, Cuts, IsCut, tokens, open_comment, prepend, at_end, at_white, at_newline, at_comment, at_open_comment, at_token, prefix, ends_line, line_len, closing_len}
 use Rattle.hv_lexer.specs.Laws.{IsLineComment, IsBlockComment, IsGap, nothing, white, line_comment, block_comment, IsParted, Parted, last, next}
 use Rattle.hv_lexer.proofs.Rises.{dropped, same_lengths}
 use Rattle.hv_lexer.proofs.Spliced.{is_spliced}
@@ -46,7 +47,7 @@ no_end line byte bytes f view_open e = cc
 no_end line byte bytes f (view_block k a b) e = cc
 no_end line byte bytes f view_token e = cc
 
-of_white : (line : LinePrefix) (byte : ℕ) (bytes : List ℕ) (f : Prefix) → View line byte bytes f → f ≡ WhiteSpace → is_white byte ≡ true
+of_white : (line : LinePrefix) (byte : ℕ) (bytes : List ℕ) (f : Prefix) → View line byte bytes f → f ≡ WhiteSpace → is_line_space byte ≡ true
 of_white line byte bytes f (view_newline a) e = cc
 of_white line byte bytes f (view_white a) e = a
 of_white line byte bytes f (view_line a) e = cc

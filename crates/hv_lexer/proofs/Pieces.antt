@@ -3,12 +3,13 @@ use Rattle.std.proofs.Common.{◌≡◌, ℕ, ◌<◌, Bool, true, false, List, 
 use Rattle.std.specs.Prelude.{◌==◌, nat_eq}
 use Rattle.std.specs.List.{starts_with}
 use Rattle.std.proofs.lemmas.Bool.Decides.{nat_tests}
+use Rattle.hv_base.specs.Ascii.{is_line_space}
 use Rattle.hv_toks.specs.declared.prefix.Prefix.TheVariants.{Token}
 use Rattle.hv_toks.specs.declared.prefix.LinePrefix.{LinePrefix}
 use Rattle.hv_toks.specs.declared.token.PpKind.{PpKind}
 use Rattle.hv_toks.specs.declared.token.PpKind.TheVariants.{Identifier, Number, CharConstant, StringLiteral, HeaderName, Punctuator, Other}
 use Rattle.hv_toks.specs.Lexical.{is_identifier, is_number, is_char_constant, is_string_literal, is_punctuator}
-use Rattle.hv_toks.specs.Cutting.{is_white, found, longest_token, token_at, prefix}
+use Rattle.hv_toks.specs.Cutting.{found, longest_token, token_at, prefix}
 use Rattle.hv_lexer.specs.Printed.{is_spelling}
 use Rattle.hv_lexer.proofs.ByteTests.{never_both, two}
 use Rattle.hv_lexer.proofs.LongerLemmas.{choose-identifier, choose-number, choose-char, choose-string, choose-punctuator}
@@ -31,14 +32,14 @@ pub record Gap (byte : ℕ) : Type 0 where
   pub slash : (47 == byte) ≡ false
   pub star : (42 == byte) ≡ false
 
-prefix_token : (line : LinePrefix) (x : ℕ) (xs : List ℕ) → (x == 10) ≡ false → is_white x ≡ false → starts_with nat_eq (x ∷ xs) (codes "//") ≡ false
+prefix_token : (line : LinePrefix) (x : ℕ) (xs : List ℕ) → (x == 10) ≡ false → is_line_space x ≡ false → starts_with nat_eq (x ∷ xs) (codes "//") ≡ false
     → starts_with nat_eq (x ∷ xs) (codes "/*") ≡ false → prefix line (x ∷ xs) ≡ Token (token_at line (x ∷ xs))
 prefix_token line x xs a b c d = rw (a, b, c, d) refl
 
 plain_newline : (x : ℕ) → is_plain x ≡ true → (x == 10) ≡ false
 plain_newline x e = grind (arith, nat_tests)
 
-plain_white : (x : ℕ) → is_plain x ≡ true → is_white x ≡ false
+plain_white : (x : ℕ) → is_plain x ≡ true → is_line_space x ≡ false
 plain_white x e = grind (arith, nat_tests)
 
 no_comment : (p : List ℕ → Bool) (text : List ℕ) (byte c : ℕ) (rest : List ℕ) → ((f : List ℕ) → p (47 ∷ c ∷ f) ≡ false) → p text ≡ true → 0 < length text

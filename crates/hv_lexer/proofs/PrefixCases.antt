@@ -3,6 +3,7 @@ use Rattle.std.proofs.Common.{◌≡◌, ℕ, zero, suc, ◌+◌, ◌<◌, ◌�
 use Rattle.std.specs.Prelude.{nat_eq, nat_lt, ◌==◌, ◌&&◌, ◌||◌, codes}
 use Rattle.std.specs.List.{starts_with}
 use Rattle.std.proofs.lemmas.Bool.Decides.{nat_tests}
+use Rattle.hv_base.specs.Ascii.{is_line_space}
 use Rattle.hv_toks.specs.declared.prefix.Prefix.{Prefix}
 use Rattle.hv_toks.specs.declared.prefix.Prefix.TheVariants.{WhiteSpace, Newline, Comment, OpenComment, Token}
 use Rattle.hv_toks.specs.declared.prefix.LinePrefix.{LinePrefix}
@@ -10,11 +11,11 @@ use Rattle.hv_toks.specs.declared.prefix.Match.{Match}
 use Rattle.hv_toks.specs.declared.token.PpKind.TheVariants.{HeaderName}
 use Rattle.hv_lexer.proofs.LongestLemmas.{shift}
 use Rattle.hv_toks.specs.Lexical.{longest, is_identifier, is_number, is_char_constant, is_string_literal, is_header_name, is_punctuator}
-use Rattle.hv_toks.specs.Cutting.{prefix, found, is_white, is_include, line_len, closing_len, longer, longest_token, other, token_at, ends_line}
+use Rattle.hv_toks.specs.Cutting.{prefix, found, is_include, line_len, closing_len, longer, longest_token, other, token_at, ends_line}
 
 pub data View (line : LinePrefix) (byte : ℕ) (bytes : List ℕ) : Prefix → Type 0 where
   view_newline : (byte == 10) ≡ true → View line byte bytes Newline
-  view_white : is_white byte ≡ true → View line byte bytes WhiteSpace
+  view_white : is_line_space byte ≡ true → View line byte bytes WhiteSpace
   view_line : starts_with nat_eq (byte ∷ bytes) (codes "//") ≡ true → View line byte bytes (Comment (line_len (byte ∷ bytes)))
   view_open : View line byte bytes OpenComment
   view_block : (n : ℕ) → starts_with nat_eq (byte ∷ bytes) (codes "/*") ≡ true → closing_len (drop 2 (byte ∷ bytes)) ≡ suc n
@@ -22,7 +23,7 @@ pub data View (line : LinePrefix) (byte : ℕ) (bytes : List ℕ) : Prefix → T
   view_token : View line byte bytes (Token (token_at line (byte ∷ bytes)))
 
 seen : (line : LinePrefix) (byte : ℕ) (bytes : List ℕ) (newline white line_like block_like : Bool) (closing : ℕ)
-    → (byte == 10) ≡ newline → is_white byte ≡ white → starts_with nat_eq (byte ∷ bytes) (codes "//") ≡ line_like
+    → (byte == 10) ≡ newline → is_line_space byte ≡ white → starts_with nat_eq (byte ∷ bytes) (codes "//") ≡ line_like
     → starts_with nat_eq (byte ∷ bytes) (codes "/*") ≡ block_like → closing_len (drop 2 (byte ∷ bytes)) ≡ closing
     → View line byte bytes (cond newline Newline (cond white WhiteSpace (cond line_like (Comment (line_len (byte ∷ bytes)))
     (cond block_like (elim closing [ zero ↦ OpenComment | suc n ↦ Comment (2 + suc n) ]) (Token (token_at line (byte ∷ bytes)))))))

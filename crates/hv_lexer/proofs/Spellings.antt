@@ -5,15 +5,15 @@ use Rattle.std.specs.List.{list_all, list_any}
 use Rattle.std.specs.Str.{bytes_eq}
 use Rattle.std.proofs.lemmas.Bool.Decides.{nat_tests}
 use Rattle.std.proofs.lemmas.Slice.Eq.{bytes_eq-Decides}
-use Rattle.hv_toks.specs.Lexical.{optional, is_nondigit, is_digit, is_word_byte, is_identifier, is_exponent, continues_number, begins_with_digit, is_number, is_empty, closes, is_quoted, is_punctuator, pairs, triples}
-use Rattle.hv_toks.specs.Cutting.{is_white}
+use Rattle.hv_toks.specs.Lexical.{optional, is_identifier, is_exponent, continues_number, begins_with_digit, is_number, is_empty, closes, is_quoted, is_punctuator, pairs, triples}
+use Rattle.hv_base.specs.Ascii.{is_digit, is_identifier_byte, is_line_space, is_nondigit}
 use Rattle.hv_lexer.proofs.ByteTests.{never_both}
 use Rattle.hv_lexer.proofs.LongestLemmas.{may_continue}
 use Rattle.hv_lexer.proofs.LongestStops.{Stops}
 
 -- a byte that is no white space, no newline, no backslash and no quote
 abbrev pub is_plain : ℕ → Bool
-is_plain byte = not (is_white byte || byte == 10 || byte == 92 || byte == 34 || byte == 39)
+is_plain byte = not (is_line_space byte || byte == 10 || byte == 92 || byte == 34 || byte == 39)
 
 abbrev pub IsPlain : List ℕ → Type 0
 IsPlain text = list_all is_plain text ≡ true
@@ -46,17 +46,17 @@ refuted false h = refl
 same_byte : (a b : ℕ) → (a == b) ≡ true → a ≡ b
 same_byte a b e = grind (arith, nat_tests)
 
-plain_word : (byte : ℕ) → is_word_byte byte ≡ true → is_plain byte ≡ true
+plain_word : (byte : ℕ) → is_identifier_byte byte ≡ true → is_plain byte ≡ true
 plain_word byte e = grind (arith, nat_tests)
 
-word_first : (byte : ℕ) → is_nondigit byte ≡ true → is_word_byte byte ≡ true
+word_first : (byte : ℕ) → is_nondigit byte ≡ true → is_identifier_byte byte ≡ true
 word_first byte e = rw e refl
 
 plain_number : (exponent : Bool) (byte : ℕ) → may_continue exponent byte ≡ true → is_plain byte ≡ true
 plain_number true byte e = grind (arith, nat_tests)
 plain_number false byte e = grind (arith, nat_tests)
 
-plain_words : (text : List ℕ) → list_all is_word_byte text ≡ true → IsPlain text
+plain_words : (text : List ℕ) → list_all is_identifier_byte text ≡ true → IsPlain text
 plain_words [] e = refl
 plain_words (x ∷ xs) e = both _ _ (plain_word x (left _ _ e)) (plain_words xs (right _ _ e))
 
@@ -162,7 +162,7 @@ number_alone (x ∷ xs) e = elim (either _ _ e) [
 ]
 
 abbrev is_wordless : ℕ → Bool
-is_wordless byte = not (is_word_byte byte)
+is_wordless byte = not (is_identifier_byte byte)
 
 wordless_nondigit : (x : ℕ) → is_wordless x ≡ true → is_nondigit x ≡ false
 wordless_nondigit x e = grind (arith, nat_tests)

@@ -2,10 +2,11 @@
 -- each token is the longest that starts at its place.
 use Rattle.std.specs.Prelude.{ℕ, ◌+◌, ◌-◌, ◌≡◌, ◌≤◌, ◌<◌, Bool, false, cond, ◌||◌, ◌==◌, not, List, [], ◌∷◌, ◌++◌, length, take, slice_index, IsTrue}
 use Rattle.std.specs.List.{All, list_all}
+use Rattle.hv_base.specs.Ascii.{is_line_space}
 use Rattle.hv_toks.specs.declared.token.PpKind.{PpKind}
 use Rattle.hv_toks.specs.declared.token.PpKind.TheVariants.{HeaderName, Other}
 use Rattle.hv_toks.specs.declared.token.PpTok.{PpTok}
-use Rattle.hv_toks.specs.Cutting.{is_white, closing_len, line_len}
+use Rattle.hv_toks.specs.Cutting.{closing_len, line_len}
 use Rattle.hv_toks.specs.Lexical.{is_header_name}
 use Rattle.hv_toks.specs.Splices.{IsSpliced}
 use Rattle.hv_lexer.specs.Printed.{is_spelling}
@@ -27,7 +28,7 @@ IsBlockComment comment = (inner : List ℕ) × (comment ≡ 47 ∷ 42 ∷ (inner
 -- white space, newlines and comments
 pub data IsGap : List ℕ → Type 0 where
   nothing : IsGap []
-  white : {byte : ℕ} {rest : List ℕ} → IsTrue (is_white byte || byte == 10) → IsGap rest → IsGap (byte ∷ rest)
+  white : {byte : ℕ} {rest : List ℕ} → IsTrue (is_line_space byte || byte == 10) → IsGap rest → IsGap (byte ∷ rest)
   line_comment : (comment rest : List ℕ) → IsLineComment comment → IsGap rest → IsGap (comment ++ rest)
   block_comment : (comment rest : List ℕ) → IsBlockComment comment → IsGap rest → IsGap (comment ++ rest)
 

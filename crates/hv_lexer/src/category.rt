@@ -5,21 +5,11 @@ ghost use Rattle.std.specs.List.{prefix_len, list_any};
 ghost use Rattle.std.specs.Str.{bytes_eq};
 ghost use Rattle.hv_lexer.specs.working.Cursors.{text_of, text_from};
 ghost use Rattle.hv_lexer.specs.working.Lengths.{IsLongest, one_more};
-ghost use Rattle.hv_toks.specs.Lexical.{longest, continues_number, optional, is_nondigit, is_digit, is_word_byte, is_identifier, is_exponent, is_sign, is_number, begins_with_digit, closes, is_quoted, is_char_constant, is_string_literal, is_enclosed, is_header_name, is_punctuator};
+ghost use Rattle.hv_base.specs.Ascii.{is_digit, is_identifier_byte, is_nondigit};
+ghost use Rattle.hv_toks.specs.Lexical.{longest, continues_number, optional, is_identifier, is_exponent, is_sign, is_number, begins_with_digit, closes, is_quoted, is_char_constant, is_string_literal, is_enclosed, is_header_name, is_punctuator};
 
 use crate::cursor::{Cursor, Next};
-
-fn is_nondigit(byte: u8) -> bool
-    ensures { result ≡ is_nondigit byte }
-{
-    matches!(byte, b'A'..=b'Z' | b'a'..=b'z' | b'_')
-}
-
-fn is_word_byte(byte: u8) -> bool
-    ensures { result ≡ is_word_byte byte }
-{
-    is_nondigit(byte) || byte.is_ascii_digit()
-}
+use hv_base::{is_identifier_byte, is_nondigit};
 
 fn is_exponent(byte: u8) -> bool
     ensures { result ≡ is_exponent byte }
@@ -35,13 +25,13 @@ fn is_sign(byte: u8) -> bool
 
 /// How many bytes the text begins with that may stand in an identifier after its first.
 fn word_len(text: Cursor) -> usize
-    ensures value { result ≡ prefix_len is_word_byte (text_of text.entry) }
+    ensures value { result ≡ prefix_len is_identifier_byte (text_of text.entry) }
     ensures within { result ≤ length (text_of text.entry) }
 {
     let mut rest = text;
     let mut len = 0;
     while let Some(next) = rest.next() {
-        if !is_word_byte(next.byte) {
+        if !is_identifier_byte(next.byte) {
             return len;
         }
         rest = next.rest;
@@ -64,9 +54,9 @@ pub(crate) fn identifier_len(first: Next) -> usize
 
 /// Whether the byte may stand in a number after its start.
 fn continues_number(exponent: bool, byte: u8) -> bool
-    ensures { result ≡ (is_word_byte byte || byte == 46 || (exponent && is_sign byte)) }
+    ensures { result ≡ (is_identifier_byte byte || byte == 46 || (exponent && is_sign byte)) }
 {
-    is_word_byte(byte) || byte == b'.' || (exponent && is_sign(byte))
+    is_identifier_byte(byte) || byte == b'.' || (exponent && is_sign(byte))
 }
 
 /// How many bytes the text begins with that go on with a number.

@@ -9,7 +9,7 @@ use crate::LexRefusal;
 use crate::cursor::Cursor;
 use crate::prefix::prefix;
 use hv_base::{List, Span};
-use hv_toks::{Prefix, LinePrefix, Match, PpTok};
+use hv_toks::{LinePrefix, Match, PpTok, Prefix};
 use std::alloc::Global;
 
 /// What stands before a token.

@@ -2,16 +2,10 @@
 
 ghost use Rattle.std.specs.Prelude.{◌≡◌, ◌≤◌, length};
 ghost use Rattle.hv_lexer.specs.working.Cursors.{text_of, text_from};
-ghost use Rattle.hv_toks.specs.Cutting.{is_white, ends_line, line_len, closing_len};
+ghost use Rattle.hv_base.specs.Ascii.{is_line_space};
+ghost use Rattle.hv_toks.specs.Cutting.{ends_line, line_len, closing_len};
 
 use crate::cursor::{Cursor, Next};
-
-/// Whether the byte is white space that is no newline.
-pub(crate) fn is_white(byte: u8) -> bool
-    ensures { result ≡ is_white byte }
-{
-    matches!(byte, 32 | 9 | 11 | 12 | 13)
-}
 
 /// Whether a line ends here.
 fn ends_line(first: Next) -> bool

@@ -10,8 +10,8 @@ ghost use Rattle.hv_toks.specs.Cutting.{Cutting, IsCut, tokens};
 mod category;
 mod cursor;
 mod cut;
-mod prefix;
 mod gap;
+mod prefix;
 mod punctuator;
 mod refusal;
 

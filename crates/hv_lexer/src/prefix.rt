@@ -10,9 +10,10 @@ use crate::category::{
     char_constant_len, header_name_len, identifier_len, number_len, string_literal_len,
 };
 use crate::cursor::{Cursor, Next};
-use crate::gap::{closing_len, is_white, line_len};
+use crate::gap::{closing_len, line_len};
 use crate::punctuator::punctuator_len;
-use hv_toks::{Prefix, LinePrefix, Match, PpKind};
+use hv_base::is_line_space;
+use hv_toks::{LinePrefix, Match, PpKind, Prefix};
 
 fn longer(a: Match, b: Match) -> Match
     ensures { result ≡ longer a b }
@@ -114,7 +115,7 @@ pub(crate) fn prefix(line: LinePrefix, text: Cursor) -> Prefix
     };
     if first.byte == b'\n' {
         Prefix::Newline
-    } else if is_white(first.byte) {
+    } else if is_line_space(first.byte) {
         Prefix::WhiteSpace
     } else if first.begins(b'/', b'/') {
         Prefix::Comment(line_len(text))

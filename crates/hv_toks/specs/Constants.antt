@@ -5,6 +5,7 @@ use Rattle.std.specs.Prelude.{ℕ, zero, suc, ◌+◌, ◌-◌, ◌*◌, ◌^◌
 use Rattle.std.specs.List.{list_any, position_or_len, prefix_len}
 use Rattle.std.specs.Fmt.{decimal}
 use Rattle.std.specs.Str.{bytes_eq}
+use Rattle.hv_base.specs.Ascii as ascii
 use Rattle.hv_base.specs.declared.token.IntType.{IntType}
 use Rattle.hv_base.specs.declared.token.IntType.TheVariants.{Int as IntKind, UInt, Long as LongKind, ULong, LongLong as LongLongKind, ULongLong}
 use Rattle.hv_toks.specs.declared.constants.Integer.{Integer}
@@ -50,7 +51,7 @@ as_numeral is_decimal (Some n) = Some (record { is_decimal = is_decimal; value =
 -- a constant without its suffix; none where the text is none, or the number needs more than 64 bits
 abbrev pub numeral : List ℕ → Option Numeral
 numeral [] = None
-numeral (byte ∷ bytes) = cond (byte == 48) (as_numeral false (after_zero bytes)) (as_numeral true (number 10 (byte ∷ bytes)))
+numeral (byte ∷ bytes) = cond (byte == ascii.zero_digit) (as_numeral false (after_zero bytes)) (as_numeral true (number 10 (byte ∷ bytes)))
 
 -- the suffixes without `u`, by their rank
 abbrev pub signed_suffixes : Rank → List (List ℕ)
@@ -157,7 +158,7 @@ printed_int n kind = decimal n ++ printed_suffix kind
 -- simple escape sequences: `'`, `"`, `?`, `\`, and `a`, `b`, `f`, `n`, `r`, `t`, `v`; none where the byte is no such letter
 abbrev pub simple_escape : ℕ → Option ℕ
 simple_escape byte =
-    cond (byte == 39 || byte == 34 || byte == 63 || byte == 92) (Some byte)
+    cond (byte == ascii.apostrophe || byte == ascii.quote || byte == 63 || byte == ascii.backslash) (Some byte)
     (cond (byte == 97) (Some 7)
     (cond (byte == 98) (Some 8)
     (cond (byte == 102) (Some 12)
@@ -185,15 +186,15 @@ as_byte n = cond (nat_lt n 256) (Some n) None
 abbrev pub character : (quote : ℕ) → List ℕ → Option ℕ
 character quote [] = None
 character quote (byte ∷ bytes) =
-    cond (byte == 92) (option_and_then as_byte (escape bytes))
-    (cond (byte == quote || byte == 10 || nat_lt 0 (length bytes)) None (Some byte))
+    cond (byte == ascii.backslash) (option_and_then as_byte (escape bytes))
+    (cond (byte == quote || byte == ascii.newline || nat_lt 0 (length bytes)) None (Some byte))
 
 -- the byte of a character constant, whose value is that of a `char` with this byte; none where the text is none of
 -- one character
 abbrev pub char_constant : List ℕ → Option ℕ
 char_constant [] = None
 char_constant (byte ∷ bytes) =
-    cond (byte == 39 && nat_lt 0 (length bytes) && slice_index bytes (length bytes - 1) == 39) (character 39 (take (length bytes - 1) bytes)) None
+    cond (byte == ascii.apostrophe && nat_lt 0 (length bytes) && slice_index bytes (length bytes - 1) == ascii.apostrophe) (character ascii.apostrophe (take (length bytes - 1) bytes)) None
 
 ------ string literals
 
@@ -215,7 +216,7 @@ escape_len (byte ∷ bytes) =
 -- how many bytes the first character of a literal has after its first byte
 abbrev pub more_len : List ℕ → ℕ
 more_len [] = 0
-more_len (byte ∷ bytes) = cond (byte == 92) (escape_len bytes) 0
+more_len (byte ∷ bytes) = cond (byte == ascii.backslash) (escape_len bytes) 0
 
 -- a byte before others, where both are there
 abbrev pub before_all : Option ℕ → Option (List ℕ) → Option (List ℕ)
@@ -233,4 +234,4 @@ characters quote zero (byte ∷ bytes) =
 abbrev pub string_literal : List ℕ → Option (List ℕ)
 string_literal [] = None
 string_literal (byte ∷ bytes) =
-    cond (byte == 34 && nat_lt 0 (length bytes) && slice_index bytes (length bytes - 1) == 34) (characters 34 0 (take (length bytes - 1) bytes)) None
+    cond (byte == ascii.quote && nat_lt 0 (length bytes) && slice_index bytes (length bytes - 1) == ascii.quote) (characters ascii.quote 0 (take (length bytes - 1) bytes)) None

@@ -3,6 +3,8 @@
 use Rattle.std.specs.Prelude.{ℕ, zero, suc, ◌+◌, ◌-◌, ◌≡◌, Bool, true, false, cond, ◌&&◌, ◌||◌, ◌==◌, nat_lt, nat_eq, List, [], ◌∷◌, codes, take, drop, length, slice_index}
 use Rattle.std.specs.List.{starts_with}
 use Rattle.std.specs.Str.{bytes_eq}
+use Rattle.hv_base.specs.Ascii as ascii
+use Rattle.hv_base.specs.Ascii.{is_line_space}
 use Rattle.hv_toks.specs.declared.prefix.Prefix.{Prefix}
 use Rattle.hv_toks.specs.declared.prefix.Prefix.TheVariants.{End, WhiteSpace, Newline, Comment, OpenComment, Token}
 use Rattle.hv_toks.specs.declared.prefix.LinePrefix.{LinePrefix}
@@ -14,13 +16,9 @@ use Rattle.hv_toks.specs.declared.token.PpTok.{PpTok}
 use Rattle.hv_toks.specs.Lexical.{longest, is_identifier, is_number, is_char_constant, is_string_literal, is_header_name, is_punctuator}
 use Rattle.hv_toks.specs.Splices.{spliced, offsets}
 
--- white space that is no newline: space, horizontal and vertical tab, form feed, carriage return
-abbrev pub is_white : ℕ → Bool
-is_white byte = byte == 32 || byte == 9 || byte == 11 || byte == 12 || byte == 13
-
 -- whether a line ends here: a newline, before which a carriage return may stand
 abbrev pub ends_line : List ℕ → Bool
-ends_line text = starts_with nat_eq text (10 ∷ []) || starts_with nat_eq text (13 ∷ 10 ∷ [])
+ends_line text = starts_with nat_eq text (ascii.newline ∷ []) || starts_with nat_eq text (ascii.carriage_return ∷ ascii.newline ∷ [])
 
 -- how many bytes there are to the end of the line
 abbrev pub line_len : List ℕ → ℕ
@@ -53,7 +51,7 @@ longest_token text =
 -- a quote that is not closed on its line goes with all the line, and another byte alone
 abbrev pub other : List ℕ → Match
 other [] = found Other 0
-other (byte ∷ bytes) = found Other (cond (byte == 39 || byte == 34) (1 + line_len bytes) 1)
+other (byte ∷ bytes) = found Other (cond (byte == ascii.apostrophe || byte == ascii.quote) (1 + line_len bytes) 1)
 
 abbrev pub is_include : LinePrefix → Bool
 is_include Start = false
@@ -71,8 +69,8 @@ token_at line text =
 abbrev pub prefix : LinePrefix → List ℕ → Prefix
 prefix line [] = End
 prefix line (byte ∷ bytes) =
-    cond (byte == 10) Newline
-    (cond (is_white byte) WhiteSpace
+    cond (byte == ascii.newline) Newline
+    (cond (is_line_space byte) WhiteSpace
     (cond (starts_with nat_eq (byte ∷ bytes) (codes "//")) (Comment (line_len (byte ∷ bytes)))
     (cond (starts_with nat_eq (byte ∷ bytes) (codes "/*")) (block_comment (byte ∷ bytes))
     (Token (token_at line (byte ∷ bytes))))))

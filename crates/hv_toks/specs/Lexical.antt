@@ -4,6 +4,8 @@
 use Rattle.std.specs.Prelude.{ℕ, zero, suc, Bool, true, false, cond, not, ◌&&◌, ◌||◌, ◌==◌, nat_le, List, [], ◌∷◌, codes}
 use Rattle.std.specs.List.{list_all, list_any}
 use Rattle.std.specs.Str.{bytes_eq}
+use Rattle.hv_base.specs.Ascii as ascii
+use Rattle.hv_base.specs.Ascii.{is_digit, is_identifier_byte, is_nondigit}
 
 -- the length of the longest prefix of the text, other than the empty one, that passes the test; 0 where there is none
 abbrev pub longest : (List ℕ → Bool) → List ℕ → ℕ
@@ -18,32 +20,23 @@ abbrev pub optional : ℕ → (List ℕ → Bool) → List ℕ → Bool
 optional byte part [] = part []
 optional byte part (first ∷ rest) = part (first ∷ rest) || (first == byte && part rest)
 
-abbrev pub is_nondigit : ℕ → Bool
-is_nondigit byte = (nat_le 65 byte && nat_le byte 90) || (nat_le 97 byte && nat_le byte 122) || byte == 95
-
-abbrev pub is_digit : ℕ → Bool
-is_digit byte = nat_le 48 byte && nat_le byte 57
-
-abbrev pub is_word_byte : ℕ → Bool
-is_word_byte byte = is_nondigit byte || is_digit byte
-
 -- identifier (6.4.2.1)
 abbrev pub is_identifier : List ℕ → Bool
 is_identifier [] = false
-is_identifier (byte ∷ bytes) = is_nondigit byte && list_all is_word_byte bytes
+is_identifier (byte ∷ bytes) = is_nondigit byte && list_all is_identifier_byte bytes
 
 -- `e`, `E`, `p` or `P`
 abbrev pub is_exponent : ℕ → Bool
 is_exponent byte = byte == 101 || byte == 69 || byte == 112 || byte == 80
 
 abbrev pub is_sign : ℕ → Bool
-is_sign byte = byte == 43 || byte == 45
+is_sign byte = byte == ascii.plus || byte == ascii.minus
 
 -- what may follow in a preprocessing number; a sign only directly after an exponent's letter
 abbrev pub continues_number : (exponent : Bool) → List ℕ → Bool
 continues_number exponent [] = true
 continues_number exponent (byte ∷ bytes) =
-    (is_word_byte byte || byte == 46 || (exponent && is_sign byte)) && continues_number (is_exponent byte) bytes
+    (is_identifier_byte byte || byte == ascii.dot || (exponent && is_sign byte)) && continues_number (is_exponent byte) bytes
 
 abbrev pub begins_with_digit : List ℕ → Bool
 begins_with_digit [] = false
@@ -51,7 +44,7 @@ begins_with_digit (byte ∷ bytes) = is_digit byte && continues_number false byt
 
 -- preprocessing number (6.4.8)
 abbrev pub is_number : List ℕ → Bool
-is_number text = optional 46 begins_with_digit text
+is_number text = optional ascii.dot begins_with_digit text
 
 abbrev pub is_empty : List ℕ → Bool
 is_empty [] = true
@@ -61,9 +54,9 @@ is_empty (_ ∷ _) = false
 -- holds, a backslash and the byte after it go together; `escaped` says that a backslash stands before
 abbrev pub closes : (escapes : Bool) → (quote : ℕ) → (escaped : Bool) → List ℕ → Bool
 closes escapes quote escaped [] = false
-closes escapes quote true (byte ∷ bytes) = not (byte == 10) && closes escapes quote false bytes
+closes escapes quote true (byte ∷ bytes) = not (byte == ascii.newline) && closes escapes quote false bytes
 closes escapes quote false (byte ∷ bytes) =
-    not (byte == 10) && cond (byte == quote) (is_empty bytes) (closes escapes quote (escapes && byte == 92) bytes)
+    not (byte == ascii.newline) && cond (byte == quote) (is_empty bytes) (closes escapes quote (escapes && byte == ascii.backslash) bytes)
 
 -- a text between two quotes
 abbrev pub is_quoted : (quote : ℕ) → List ℕ → Bool
@@ -72,11 +65,11 @@ is_quoted quote (byte ∷ bytes) = byte == quote && closes true quote false byte
 
 -- character constant (6.4.4.4), whatever its escapes, and also without a character
 abbrev pub is_char_constant : List ℕ → Bool
-is_char_constant text = optional 76 (is_quoted 39) text
+is_char_constant text = optional ascii.wide (is_quoted ascii.apostrophe) text
 
 -- string literal (6.4.5), whatever its escapes
 abbrev pub is_string_literal : List ℕ → Bool
-is_string_literal text = optional 76 (is_quoted 34) text
+is_string_literal text = optional ascii.wide (is_quoted ascii.quote) text
 
 -- at least one byte, and then the closing one
 abbrev pub is_enclosed : (closing : ℕ) → List ℕ → Bool
@@ -86,7 +79,7 @@ is_enclosed closing (byte ∷ bytes) = not (byte == closing) && closes false clo
 -- header name (6.4.7)
 abbrev pub is_header_name : List ℕ → Bool
 is_header_name [] = false
-is_header_name (byte ∷ bytes) = (byte == 60 && is_enclosed 62 bytes) || (byte == 34 && is_enclosed 34 bytes)
+is_header_name (byte ∷ bytes) = (byte == ascii.less && is_enclosed ascii.greater bytes) || (byte == ascii.quote && is_enclosed ascii.quote bytes)
 
 abbrev pub pairs : List (List ℕ)
 pairs = codes "->" ∷ codes "++" ∷ codes "--" ∷ codes "<<" ∷ codes ">>" ∷ codes "<=" ∷ codes ">=" ∷ codes "==" ∷ codes "!="

@@ -1,6 +1,6 @@
 -- What one configuration keeps of a stream.
 use Rattle.std.specs.Prelude.{Bool, List, map, filter}
-use Rattle.hv_base.specs.declared.span.Start.{Start}
+use Rattle.hv_base.specs.declared.place.Start.{Start}
 use Rattle.hv_base.specs.declared.token.CTok.{CTok}
 use Rattle.hv_cond.specs.Diagram.{Diagram, holds}
 use Rattle.hv_toks.specs.declared.stream.StreamTok.{StreamTok}

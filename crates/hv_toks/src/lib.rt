@@ -2,18 +2,18 @@
 //! translation unit under all configurations.
 #![tactic(auto)]
 
-mod prefix;
 mod constants;
 mod macros;
 mod parted;
+mod prefix;
 mod stream;
 mod token;
 
-pub use prefix::{Prefix, LinePrefix, Match};
 pub use constants::{Integer, Rank, read_char_constant, read_integer};
 pub use hv_base::{CTok, IntType, Keyword, Punct};
 pub use macros::{Body, Meaning};
 pub use parted::{Failing, Parted};
+pub use prefix::{LinePrefix, Match, Prefix};
 pub use stream::{Classified, Stream, StreamTok, project};
 pub use token::{PpKind, PpTok};
 
