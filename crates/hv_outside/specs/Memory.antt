@@ -1,10 +1,22 @@
--- What files and sources in memory hold.
-use Rattle.std.specs.Prelude.{ℕ, ◌≡◌, ◌≢◌, List, Option, Some}
+-- Which calls of files, sources and sinks in memory fail, and how much a write takes.
+use Rattle.std.specs.Prelude.{ℕ}
+use Rattle.hv_outside.specs.declared.memory.MemFiles.{MemFiles}
+use Rattle.hv_outside.specs.declared.memory.MemSource.{MemSource}
+use Rattle.hv_outside.specs.declared.memory.MemSink.{MemSink}
+use Rattle.hv_outside.specs.Schedule.{Schedule}
 
--- these bytes are held under this name now, and under each other name what was held before
-abbrev pub Puts : (List ℕ → Option (List ℕ)) → (List ℕ → Option (List ℕ)) → List ℕ → List ℕ → Type 0
-Puts before now name bytes = (now name ≡ Some bytes) × ((other : List ℕ) → other ≢ name → now other ≡ before other)
+-- which reads of these files fail
+abbrev pub file_schedule : MemFiles → Schedule
+file_schedule files = files.schedule
 
--- what is held under each name stays
-abbrev pub SameHeld : (List ℕ → Option (List ℕ)) → (List ℕ → Option (List ℕ)) → Type 0
-SameHeld before now = (other : List ℕ) → now other ≡ before other
+-- which reads of this source fail
+abbrev pub source_schedule : MemSource → Schedule
+source_schedule source = source.schedule
+
+-- which writes to this sink fail
+abbrev pub sink_schedule : MemSink → Schedule
+sink_schedule sink = sink.schedule
+
+-- the most bytes that one write takes
+abbrev pub most_of : MemSink → ℕ
+most_of sink = sink.most.bytes

@@ -1,6 +1,6 @@
-ghost use Rattle.std.specs.Prelude.{◌≡◌, ◌≢◌, ◌≤◌, ℕ, List, Bool, Option, IsTrue, IsErrOf, IfOk, Some};
-ghost use Rattle.hv_outside.specs.Count.{Rose};
-ghost use Rattle.hv_outside.specs.Files.{GivesHeld, IsWithinLimit};
+ghost use Rattle.std.specs.Prelude.{◌≡◌, Some, IsTrue, IfOk, if◌then◌else◌};
+ghost use Rattle.hv_outside.specs.Count.{RoseIf};
+ghost use Rattle.hv_outside.specs.Files.{FileState, GivesHeld, IsWithinLimit, Keeps, is_absence, is_fault};
 
 use hv_base::Text;
 use std::alloc::Global;
@@ -30,32 +30,20 @@ pub enum FileFault {
 
 /// Named files, of which each can be read whole.
 pub trait Files {
-    /// Whether it is told what the files hold. A real folder tells nothing.
-    ghost told: { Self → Bool };
-
-    /// The bytes under a name, where the content is told.
-    ghost held: { Self → List ℕ → Option (List ℕ) };
-
-    /// How many reads failed. It never falls.
-    ghost faults: { Self → ℕ };
-
-    /// The name of the latest read that failed.
-    ghost failed_name: { Self → Option (List ℕ) };
-
-    /// How many reads found no file. It never falls.
-    ghost absences: { Self → ℕ };
+    /// What the files hold where that is told, and how often reading them failed or found no file. A
+    /// real folder tells nothing.
+    ghost state: { Self → FileState };
 
     /// Reads the file of this name whole.
     fn read(&mut self, alloc: Global, name: &str) -> Result<Got, FileFault>
-        ensures failed { IsErrOf result FileFault.Failed → Rose (faults self.old) (faults self.new) }
-        ensures failed_name { IsErrOf result FileFault.Failed → failed_name self.new ≡ Some name.now }
-        ensures other_name { (result ≢ Err FileFault.Failed) → failed_name self.new ≡ failed_name self.old }
-        ensures absent { (result ≡ Ok Got.Absent) → Rose (absences self.old) (absences self.new) }
         ensures within_limit { IfOk result IsWithinLimit }
-        ensures as_held { IsTrue (told self.old) → IfOk result (GivesHeld (held self.old name.now)) }
+        ensures as_held { IsTrue (state self.old).told → IfOk result (GivesHeld ((state self.old).held name.now)) }
 
-        ensures faults_never_fall { faults self.old ≤ faults self.new }
-        ensures absences_never_fall { absences self.old ≤ absences self.new }
-        ensures told_stays { told self.new ≡ told self.old }
-        ensures held_stays { (other : List ℕ) → held self.new other ≡ held self.old other };
+        // A failed read raises its count and leaves its name, an absence raises its count, and no other
+        // answer changes any of the three.
+        ensures faults { RoseIf (is_fault result) (state self.old).faults (state self.new).faults }
+        ensures absences { RoseIf (is_absence result) (state self.old).absences (state self.new).absences }
+        ensures failed_name { (state self.new).failed_name
+            ≡ (if is_fault result then Some name.now else (state self.old).failed_name) }
+        ensures keeps { Keeps (state self.old) (state self.new) };
 }

@@ -2,7 +2,6 @@
 //! holds and how often it failed.
 #![tactic(auto)]
 
-mod count;
 mod files;
 mod memory;
 mod safe;

@@ -1,10 +1,9 @@
-ghost use Rattle.std.specs.Prelude.{◌≡◌, ℕ, ◌≤◌, List, [], length, drop, true, None, Some, OnOk, OnErr, IfOk};
+ghost use Rattle.std.specs.Prelude.{◌≡◌, ℕ, ◌≤◌, List, [], ◌++◌, length, drop, true, None, Some, OnOk, OnErr, IfOk};
 ghost use Rattle.indexmap.specs.IndexMap.{get_by_text};
-ghost use Rattle.hv_outside.specs.Files.{GivesHeld, IsWithinLimit};
-ghost use Rattle.hv_outside.specs.Memory.{Puts, SameHeld};
+ghost use Rattle.hv_outside.specs.Files.{GivesHeld, IsWithinLimit, Puts, SameHeld};
 
-use crate::count::raised;
 use crate::files::{FILE_LIMIT, FileFault, Files, Got};
+use crate::schedule::raised;
 use crate::sink::{Sink, SinkFault};
 use crate::source::{Failed, Source};
 use hv_base::{Memory, Text};
@@ -23,8 +22,8 @@ pub struct SafeFiles {
 impl SafeFiles {
     /// No file. Names are copied into memory of `alloc`.
     pub fn new(alloc: Global) -> SafeFiles
-        ensures holds_nothing { (name : List ℕ) → ⟦<SafeFiles as Files>⟧.held result name ≡ None }
-        ensures no_absence { ⟦<SafeFiles as Files>⟧.absences result ≡ 0 }
+        ensures holds_nothing { (name : List ℕ) → (⟦<SafeFiles as Files>⟧.state result).held name ≡ None }
+        ensures no_absence { (⟦<SafeFiles as Files>⟧.state result).absences ≡ 0 }
     {
         SafeFiles {
             alloc,
@@ -33,13 +32,13 @@ impl SafeFiles {
         }
     }
 
-    /// Adds a file, or replaces the one of that name. For want of memory all files stay as they were.
+    /// Adds a file, or replaces the one of that name. Out of memory, all files stay as they were.
     pub fn put(&mut self, name: &str, bytes: Text) -> Result<(), Memory>
         ensures put { OnOk result
-            (Puts (⟦<SafeFiles as Files>⟧.held self.old) (⟦<SafeFiles as Files>⟧.held self.new) name.now bytes) }
+            (Puts ((⟦<SafeFiles as Files>⟧.state self.old).held) ((⟦<SafeFiles as Files>⟧.state self.new).held) name.now bytes) }
         ensures unchanged { OnErr result
-            (SameHeld (⟦<SafeFiles as Files>⟧.held self.old) (⟦<SafeFiles as Files>⟧.held self.new)) }
-        ensures absences_stay { ⟦<SafeFiles as Files>⟧.absences self.new ≡ ⟦<SafeFiles as Files>⟧.absences self.old }
+            (SameHeld ((⟦<SafeFiles as Files>⟧.state self.old).held) ((⟦<SafeFiles as Files>⟧.state self.new).held)) }
+        ensures absences_stay { (⟦<SafeFiles as Files>⟧.state self.new).absences ≡ (⟦<SafeFiles as Files>⟧.state self.old).absences }
     {
         let name = String::from_str(self.alloc, name)?;
         self.files.insert(name, bytes)?;
@@ -60,15 +59,13 @@ impl SafeFiles {
 }
 
 impl Files for SafeFiles {
-    ghost told = { λ _. true };
-
-    ghost held = { λ files. get_by_text files.files };
-
-    ghost faults = { λ _. 0 };
-
-    ghost failed_name = { λ _. None };
-
-    ghost absences = { λ files. files.absences };
+    ghost state = { λ files. record {
+      told = true;
+      held = get_by_text files.files;
+      faults = 0;
+      absences = files.absences;
+      failed_name = None;
+    } };
 
     fn read(&mut self, alloc: Global, name: &str) -> Result<Got, FileFault> {
         match self.find(alloc, name) {
@@ -107,9 +104,7 @@ impl SafeSource {
 }
 
 impl Source for SafeSource {
-    ghost left = { λ source. Some source };
-
-    ghost faults = { λ _. 0 };
+    ghost state = { λ source. record { left = Some source; faults = 0 } };
 
     fn read_some(&mut self, buf: &mut [u8]) -> Result<usize, Failed> {
         let rest = &self.bytes.as_slice()[self.at..];
@@ -148,15 +143,21 @@ impl SafeSink {
     {
         self.text.as_slice()
     }
+
+    /// Adds all of `piece`. Out of memory, nothing is added.
+    pub(crate) fn append(&mut self, piece: &[u8]) -> Result<(), Memory>
+        ensures ok { OnOk result (self.new ≡ self.old ++ piece.now) }
+        ensures unchanged { OnErr result (self.new ≡ self.old) }
+    {
+        self.text.extend_from_slice(piece)
+    }
 }
 
 impl Sink for SafeSink {
-    ghost written = { λ sink. Some sink };
-
-    ghost faults = { λ _. 0 };
+    ghost state = { λ sink. record { written = Some sink; faults = 0 } };
 
     fn write_some(&mut self, piece: &[u8]) -> Result<usize, SinkFault> {
-        match self.text.extend_from_slice(piece) {
+        match self.append(piece) {
             Ok(()) => Ok(piece.len()),
             Err(Memory) => Err(SinkFault::Memory),
         }

@@ -3,8 +3,8 @@ ghost use Rattle.std.specs.Option.{option_map};
 ghost use Rattle.std.specs.String.{string_bytes};
 ghost use Rattle.hv_outside.specs.Files.{IsWithinLimit};
 
-use crate::count::raised;
 use crate::files::{FILE_LIMIT, FileFault, Files, Got};
+use crate::schedule::raised;
 use crate::std_streams::read_once;
 use hv_base::Text;
 use std::alloc::{AllocError, Global};
@@ -27,9 +27,9 @@ pub struct DirFiles<'a, R> {
 impl<'a, R: rt::Files> DirFiles<'a, R> {
     /// Reads files through `rt`.
     pub fn new(rt: &'a R) -> DirFiles<'a, R>
-        ensures no_fault { ⟦<DirFiles<'a, R> as Files>⟧.faults result ≡ 0 }
-        ensures no_name { ⟦<DirFiles<'a, R> as Files>⟧.failed_name result ≡ None }
-        ensures no_absence { ⟦<DirFiles<'a, R> as Files>⟧.absences result ≡ 0 }
+        ensures no_fault { (⟦<DirFiles<'a, R> as Files>⟧.state result).faults ≡ 0 }
+        ensures no_name { (⟦<DirFiles<'a, R> as Files>⟧.state result).failed_name ≡ None }
+        ensures no_absence { (⟦<DirFiles<'a, R> as Files>⟧.state result).absences ≡ 0 }
     {
         DirFiles {
             rt,
@@ -41,15 +41,13 @@ impl<'a, R: rt::Files> DirFiles<'a, R> {
 }
 
 impl<'a, R: rt::Files> Files for DirFiles<'a, R> {
-    ghost told = { λ _. false };
-
-    ghost held = { λ _ _. None };
-
-    ghost faults = { λ files. files.faults };
-
-    ghost failed_name = { λ files. option_map string_bytes files.failed_name };
-
-    ghost absences = { λ files. files.absences };
+    ghost state = { λ files. record {
+      told = false;
+      held = λ _. None;
+      faults = files.faults;
+      absences = files.absences;
+      failed_name = option_map string_bytes files.failed_name;
+    } };
 
     fn read(&mut self, alloc: Global, name: &str) -> Result<Got, FileFault> {
         // The copy comes first, so that a failed read always leaves its name.
@@ -93,7 +91,7 @@ fn find<R: rt::Files>(rt: &R, alloc: Global, name: &str) -> Result<Got, FileFaul
 
 /// Reads to the end, but stops once more came than a file may have: a special file, whose metadata
 /// tells no length, may have no end.
-fn read_whole<F: Read>(file: &mut F, alloc: Global) -> Result<Got, FileFault>
+pub(crate) fn read_whole<F: Read>(file: &mut F, alloc: Global) -> Result<Got, FileFault>
     ensures { IfOk result IsWithinLimit }
 {
     let mut chunk = match empty_chunk(alloc) {

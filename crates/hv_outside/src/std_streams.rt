@@ -1,6 +1,6 @@
 ghost use Rattle.std.specs.Prelude.{◌≡◌, ◌<◌, ◌≤◌, ℕ, length, None, IfOk};
 
-use crate::count::raised;
+use crate::schedule::raised;
 use crate::sink::{Sink, SinkFault};
 use crate::source::{Failed, Source};
 use std::io::{self, ErrorKind, Read, Write};
@@ -15,16 +15,14 @@ pub struct StdSource<R> {
 impl<R: Read> StdSource<R> {
     /// Reads from `from`, which it owns.
     pub fn new(from: R) -> StdSource<R>
-        ensures { ⟦<StdSource<R> as Source>⟧.faults result ≡ 0 }
+        ensures { (⟦<StdSource<R> as Source>⟧.state result).faults ≡ 0 }
     {
         StdSource { from, faults: 0 }
     }
 }
 
 impl<R: Read> Source for StdSource<R> {
-    ghost left = { λ _. None };
-
-    ghost faults = { λ source. source.faults };
+    ghost state = { λ source. record { left = None; faults = source.faults } };
 
     fn read_some(&mut self, buf: &mut [u8]) -> Result<usize, Failed> {
         match read_once(&mut self.from, buf) {
@@ -47,16 +45,14 @@ pub struct StdSink<W> {
 impl<W: Write> StdSink<W> {
     /// Writes to `to`, which it owns.
     pub fn new(to: W) -> StdSink<W>
-        ensures { ⟦<StdSink<W> as Sink>⟧.faults result ≡ 0 }
+        ensures { (⟦<StdSink<W> as Sink>⟧.state result).faults ≡ 0 }
     {
         StdSink { to, faults: 0 }
     }
 }
 
 impl<W: Write> Sink for StdSink<W> {
-    ghost written = { λ _. None };
-
-    ghost faults = { λ sink. sink.faults };
+    ghost state = { λ sink. record { written = None; faults = sink.faults } };
 
     fn write_some(&mut self, piece: &[u8]) -> Result<usize, SinkFault> {
         match write_once(&mut self.to, piece) {

@@ -1,4 +1,5 @@
 use super::*;
+use crate::std_files::read_whole;
 use hv_base::{List, Text};
 use std::alloc::{AllocError, Global};
 use std::io::{self, ErrorKind, Read, Write};
@@ -100,7 +101,7 @@ fn sinks_get_what_is_written(rt: HostRuntime) -> Result<(), Fail> {
 }
 
 #[test]
-fn a_failed_write_leaves_a_front(rt: HostRuntime) -> Result<(), Fail> {
+fn a_failed_write_leaves_a_prefix(rt: HostRuntime) -> Result<(), Fail> {
     let alloc = rt.alloc();
     let failed = Err(SinkFault::Failed);
     let table = [
@@ -209,4 +210,54 @@ fn writers_of_std_are_sinks(rt: HostRuntime) -> Result<(), Fail> {
     assert_eq!(rt; worn.write_some(b"b"), Err(SinkFault::Failed));
     assert_eq!(rt; worn.write_some(b"b"), Err(SinkFault::Failed));
     Ok(())
+}
+
+/// A reader that runs out of memory.
+#[derive(Drop)]
+struct Starved;
+
+impl Read for Starved {
+    fn read(&mut self, _buf: &mut [u8]) -> io::Result<usize> {
+        Err(io::Error::from(ErrorKind::OutOfMemory))
+    }
+}
+
+#[test]
+fn out_of_memory_in_a_reader_is_no_fault(rt: HostRuntime) {
+    let answer = read_whole(&mut Starved, rt.alloc());
+    assert!(rt; matches!(answer, Err(FileFault::Memory)));
+}
+
+/// A writer that keeps how many bytes it got, and how many of them were flushed.
+#[derive(Drop)]
+struct Buffered {
+    written: usize,
+    flushed: usize,
+}
+
+impl Write for &mut Buffered {
+    fn write(&mut self, buf: &[u8]) -> io::Result<usize> {
+        self.written = self.written.saturating_add(buf.len());
+        Ok(buf.len())
+    }
+
+    fn flush(&mut self) -> io::Result<()> {
+        self.flushed = self.written;
+        Ok(())
+    }
+}
+
+#[test]
+fn sinks_over_writers_of_std_flush_each_write(rt: HostRuntime) {
+    let mut buffered = Buffered {
+        written: 0,
+        flushed: 0,
+    };
+    let mut sink = StdSink::new(&mut buffered);
+    let first = sink.write_some(b"abc");
+    let second = sink.write_some(b"de");
+    drop(sink);
+    assert_eq!(rt; first, Ok(3));
+    assert_eq!(rt; second, Ok(2));
+    assert_eq!(rt; buffered.flushed, 5);
 }
