@@ -5,7 +5,7 @@ use Rattle.hv_outside.specs.declared.files.FileFault.{FileFault}
 use Rattle.hv_outside.specs.declared.files.FileFault.TheVariants.{Failed, Memory}
 use Rattle.hv_outside.specs.declared.files.Got.{Got}
 use Rattle.hv_outside.specs.declared.files.Got.TheVariants.{Bytes, Absent, TooBig}
-use Rattle.hv_outside.specs.declared.files.TheConstants.{FILE_LIMIT}
+use Rattle.hv_base.specs.declared.limits.TheConstants.{MOST_FILE_BYTES}
 
 -- whether it is told what the files hold, and the bytes under each name, which say nothing where it isn't
 -- told; how many reads failed, how many found no file, and the name of the latest read that failed
@@ -37,9 +37,9 @@ GivesHeld held (TooBig size) = (bytes : List ℕ) × (held ≡ Some bytes) × (l
 
 -- a file is given up to the limit on one file, and is too big beyond it
 abbrev pub IsWithinLimit : Got → Type 0
-IsWithinLimit (Bytes bytes) = length bytes ≤ FILE_LIMIT
+IsWithinLimit (Bytes bytes) = length bytes ≤ MOST_FILE_BYTES
 IsWithinLimit Absent = Unit {0}
-IsWithinLimit (TooBig size) = FILE_LIMIT < size
+IsWithinLimit (TooBig size) = MOST_FILE_BYTES < size
 
 -- the files hold and tell what they did before, and no count fell
 pub record Keeps (before now : FileState) : Type 0 where

@@ -5,17 +5,14 @@ ghost use Rattle.hv_outside.specs.Files.{FileState, GivesHeld, IsWithinLimit, Ke
 use hv_base::Text;
 use std::alloc::Global;
 
-/// The most bytes that a file may have.
-pub(crate) const FILE_LIMIT: u64 = 16_777_216;
-
 /// What a read of a file found.
 #[derive(Debug, Drop)]
 pub enum Got {
-    /// The whole file, of at most 16,777,216 bytes.
+    /// The whole file, of at most `MOST_FILE_BYTES` bytes.
     Bytes(Text),
     /// There is no file of that name.
     Absent,
-    /// The file has more than 16,777,216 bytes: as many as given.
+    /// The file has more than `MOST_FILE_BYTES` bytes: as many as given.
     TooBig(u64),
 }
 

@@ -2,11 +2,11 @@ ghost use Rattle.std.specs.Prelude.{◌≡◌, ℕ, ◌≤◌, List, [], ◌++�
 ghost use Rattle.indexmap.specs.IndexMap.{get_by_text};
 ghost use Rattle.hv_outside.specs.Files.{GivesHeld, IsWithinLimit, Puts, SameHeld};
 
-use crate::files::{FILE_LIMIT, FileFault, Files, Got};
+use crate::files::{FileFault, Files, Got};
 use crate::schedule::raised;
 use crate::sink::{Sink, SinkFault};
 use crate::source::{Failed, Source};
-use hv_base::{Memory, Text};
+use hv_base::{MOST_FILE_BYTES, Memory, Text};
 use indexmap::IndexMap;
 use std::alloc::Global;
 use std::marker::Model;
@@ -52,7 +52,9 @@ impl SafeFiles {
     {
         match self.files.get(name) {
             None => Ok(Got::Absent),
-            Some(bytes) if bytes.len() as u64 > FILE_LIMIT => Ok(Got::TooBig(bytes.len() as u64)),
+            Some(bytes) if bytes.len() as u64 > MOST_FILE_BYTES => Ok(Got::TooBig(
+                bytes.len() as u64,
+            )),
             Some(bytes) => Ok(Got::Bytes(Text::from_slice(alloc, bytes.as_slice())?)),
         }
     }

@@ -3,10 +3,10 @@ ghost use Rattle.std.specs.Option.{option_map};
 ghost use Rattle.std.specs.String.{string_bytes};
 ghost use Rattle.hv_outside.specs.Files.{IsWithinLimit};
 
-use crate::files::{FILE_LIMIT, FileFault, Files, Got};
+use crate::files::{FileFault, Files, Got};
 use crate::schedule::raised;
 use crate::std_streams::read_once;
-use hv_base::Text;
+use hv_base::{MOST_FILE_BYTES, Text};
 use std::alloc::{AllocError, Global};
 use std::fs::{self, OpenFile};
 use std::io::{self, ErrorKind, Read};
@@ -83,7 +83,7 @@ fn find<R: rt::Files>(rt: &R, alloc: Global, name: &str) -> Result<Got, FileFaul
         Ok(metadata) => metadata.len(),
         Err(error) => return Err(fault_of(&error)),
     };
-    if size > FILE_LIMIT {
+    if size > MOST_FILE_BYTES {
         return Ok(Got::TooBig(size));
     }
     read_whole(&mut file, alloc)
@@ -108,7 +108,7 @@ pub(crate) fn read_whole<F: Read>(file: &mut F, alloc: Global) -> Result<Got, Fi
         if bytes.extend_from_slice(&chunk[..count]).is_err() {
             return Err(FileFault::Memory);
         }
-        if bytes.len() as u64 > FILE_LIMIT {
+        if bytes.len() as u64 > MOST_FILE_BYTES {
             return Ok(Got::TooBig(bytes.len() as u64));
         }
     }
