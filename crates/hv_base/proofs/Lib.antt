@@ -1,4 +1,5 @@
 pub mod Booleans
+pub mod BundlesLemmas
 pub mod KeywordsLemmas
 pub mod Lists
 pub mod PunctsLemmas

@@ -4,6 +4,7 @@ use Rattle.hv_base.specs.declared.why.Why.{Why}
 use Rattle.hv_base.specs.declared.why.Why.TheVariants.{OpenComment, BadDirective, Unbalanced, BadCondition, ErrorDirective, NoFile, IncludeTooDeep, BadDefine, BadInvocation, DirectiveInArguments, BadPaste, EpisodeTooLong, BadConstant, LeftOut, Syntax, TooDeep, Undeclared, Redeclared, BadType, NotConstant, DuplicateCase, Reserved, NoMain, NotDefined}
 
 -- the number of a refusal
+-- SAME: refusals
 abbrev pub number_of : Why → ℕ
 number_of OpenComment = 1
 number_of BadDirective = 2
@@ -31,6 +32,7 @@ number_of NoMain = 23
 number_of NotDefined = 24
 
 -- the name of a refusal
+-- SAME: refusals
 abbrev pub name_of : Why → List ℕ
 name_of OpenComment = codes "OpenComment"
 name_of BadDirective = codes "BadDirective"

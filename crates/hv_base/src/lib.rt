@@ -3,7 +3,9 @@
 #![tactic(auto)]
 
 mod ascii;
+mod bundle;
 mod config;
+mod held;
 mod keyword;
 mod limits;
 mod list;
@@ -20,7 +22,9 @@ pub use ascii::{
     is_among, is_blank, is_digit, is_identifier_byte, is_letter, is_line_space, is_nondigit,
     is_printable,
 };
+pub use bundle::Bundle;
 pub use config::Config;
+pub use held::Held;
 pub use keyword::Keyword;
 pub use limits::{
     FIRST_HEADER_FILE, MOST_BRACKETS, MOST_BUNDLE_BYTES, MOST_EVENTS, MOST_FACES, MOST_FILE_BYTES,

@@ -2,7 +2,7 @@ use std::alloc::{AllocError, AllocFailed};
 use std::error::Error;
 use std::fmt;
 
-/// Want of memory, the one answer that a call may give whatever its arguments are.
+/// Memory ran out: the one answer that a call may give whatever its arguments are.
 #[derive(Clone, Copy, Debug, PartialEq, Eq)]
 pub struct Memory;
 

@@ -16,6 +16,6 @@ pub enum Refusal {
         index: Option<u64>,
         configs: List<Config>,
     },
-    /// Want of memory.
+    /// Memory ran out.
     Memory,
 }

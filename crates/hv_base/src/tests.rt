@@ -72,10 +72,12 @@ fn stacks_give_the_last_pushed_first(rt: HostRuntime) -> Result<(), Fail> {
     stack.push(b'b')?;
     assert_eq!(rt; stack.len(), 2);
     assert_eq!(rt; stack.as_slice(), b"ab".as_slice());
-    assert_eq!(rt; stack.top().copied(), Some(b'b'));
-    assert_eq!(rt; stack.pop(), Some(b'b'));
+    assert_eq!(rt; stack.replace_top(b'c'), Some(b'b'));
+    assert_eq!(rt; stack.top().copied(), Some(b'c'));
+    assert_eq!(rt; stack.pop(), Some(b'c'));
     assert_eq!(rt; stack.pop(), Some(b'a'));
     assert_eq!(rt; stack.pop(), None);
+    assert_eq!(rt; stack.replace_top(b'd'), None);
     Ok(())
 }
 
@@ -128,6 +130,25 @@ fn spellings_are_read_back(rt: HostRuntime) {
     for text in ["..", "<:", "$", ""] {
         assert_eq!(rt; Punct::from_spelling(text.as_bytes()), None);
     }
+}
+
+#[test]
+fn bundles_number_names_in_order(rt: HostRuntime) -> Result<(), Fail> {
+    let alloc = rt.alloc();
+    let dirs = [String::from_str(alloc, "include")?];
+    let mut bundle = Bundle::new(alloc, "main.c", &dirs)?;
+    let bytes = Text::from_slice(alloc, b"#include \"a.h\"\n")?;
+    assert_eq!(rt; bundle.add("main.c", Held::Bytes(bytes))?, 0);
+    assert_eq!(rt; bundle.add("a.h", Held::Absent)?, 1);
+    assert!(rt; matches!(bundle.get("a.h"), Some(Held::Absent)));
+    assert!(rt; matches!(bundle.get("main.c"), Some(Held::Bytes(text)) if text.len() == 15));
+    assert!(rt; bundle.get("b.h").is_none());
+    assert_eq!(rt; bundle.number_of("a.h"), Some(1));
+    assert_eq!(rt; bundle.number_of("include/a.h"), None);
+    assert_eq!(rt; bundle.name_of(0), Some("main.c"));
+    assert_eq!(rt; bundle.name_of(2), None);
+    assert_eq!(rt; bundle.dirs().len(), 1);
+    Ok(())
 }
 
 /// A tree that leads back to itself through `List`, as syntax trees do.
