@@ -1,9 +1,10 @@
-ghost use Rattle.std.specs.Prelude.{◌≡◌, ◌↔◌, [], ◌∷◌, ◌++◌, ◌<◌, length, slice_get, IsTrue, OnOk, OnErr, IfErr, IfOk, OnSome};
+ghost use Rattle.std.specs.Prelude.{◌≡◌, ◌↔◌, [], ◌∷◌, ◌++◌, ◌<◌, length, slice_get, slice_set, Some, IsTrue, OnOk, OnErr, IfErr, IfOk, OnSome};
 ghost use Rattle.std.specs.Option.{option_copied};
 
 use crate::Memory;
 use std::alloc::Global;
 use std::marker::Model;
+use std::mem;
 
 /// A growable list. Contracts see it as the list of its items.
 #[derive(Debug, Drop)]
@@ -74,6 +75,15 @@ impl<T> List<T> {
         ensures within { OnSome result (i < length self.now) }
     {
         self.items.get(i)
+    }
+
+    /// Puts `item` at index `i` and hands back the item that was there.
+    pub fn replace(&mut self, i: usize, item: T) -> T
+        requires { i < length self.old }
+        ensures after { self.new ≡ slice_set self.old i item }
+        ensures was { slice_get self.old i ≡ Some result }
+    {
+        mem::replace(&mut self.items[i], item)
     }
 
     /// All items, in order.

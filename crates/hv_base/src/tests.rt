@@ -38,6 +38,9 @@ fn lists_are_equal_where_their_items_are(rt: HostRuntime) -> Result<(), Fail> {
     assert!(rt; text != copy);
     assert!(rt; !text.is_text(b"ab"));
     assert!(rt; !text.is_empty());
+    assert_eq!(rt; text.len(), 3);
+    assert_eq!(rt; text.replace(1, b'x'), b'b');
+    assert!(rt; text.is_text(b"axc"));
     Ok(())
 }
 
