@@ -1,3 +1,4 @@
 pub mod ConstantsLemmas
+pub mod ReadsBack
 mod Examples
 pub mod Unique

@@ -1,7 +1,8 @@
 //! Reading constants: what their spellings mean (ISO/IEC 9899:1999, 6.4.4).
-ghost use Rattle.std.specs.Prelude.{◌≡◌, ◌<◌, ◌≤◌, ◌^◌, ◌∷◌, [], Some, length, nat_lt};
+ghost use Rattle.std.specs.Prelude.{◌≡◌, ℕ, ◌<◌, ◌≤◌, ◌^◌, ◌∷◌, [], Some, length, nat_lt};
 ghost use Rattle.std.specs.List.{list_any};
 ghost use Rattle.std.specs.Str.{bytes_eq};
+ghost use Rattle.hv_base.specs.declared.token.IntType.{IntType};
 ghost use Rattle.hv_toks.specs.Constants as constants;
 
 use hv_base::IntType;
@@ -182,7 +183,8 @@ fn unsuffixed_len(text: &[u8]) -> usize
         .count()
 }
 
-/// What an integer constant says (6.4.4.1), or `None` where the text is none or needs more than 64 bits.
+/// What the spelling of an integer constant says (6.4.4.1), or `None` where the text is none or needs
+/// more than 64 bits.
 pub fn read_integer(text: &[u8]) -> Option<Integer>
     ensures { result ≡ constants.integer text.now }
 {
@@ -207,6 +209,45 @@ fn fits(kind: IntType, value: u64) -> bool
         IntType::Long | IntType::LongLong => value < 1 << 63,
         IntType::ULong | IntType::ULongLong => true,
     }
+}
+
+/// The types that a constant may have, in order (6.4.4.1, paragraph 5).
+fn types(integer: Integer) -> &'static [IntType]
+    ensures { result.now ≡ constants.types integer }
+{
+    use IntType::{Int, Long, LongLong, UInt, ULong, ULongLong};
+    match (integer.is_unsigned, integer.rank) {
+        (true, Rank::Int) => &[UInt, ULong, ULongLong],
+        (true, Rank::Long) => &[ULong, ULongLong],
+        (true, Rank::LongLong) => &[ULongLong],
+        (false, Rank::Int) if integer.is_decimal => &[Int, Long, LongLong],
+        (false, Rank::Long) if integer.is_decimal => &[Long, LongLong],
+        (false, Rank::LongLong) if integer.is_decimal => &[LongLong],
+        (false, Rank::Int) => &[Int, UInt, Long, ULong, LongLong, ULongLong],
+        (false, Rank::Long) => &[Long, ULong, LongLong, ULongLong],
+        (false, Rank::LongLong) => &[LongLong, ULongLong],
+    }
+}
+
+/// The type of an integer constant, or `None` where none can represent its value.
+fn type_of(integer: Integer) -> Option<IntType>
+    ensures { result ≡ constants.type_of integer }
+{
+    types(integer)
+        .iter()
+        .copied()
+        .find(|kind| fits(*kind, integer.value))
+}
+
+/// The value and the type of an integer constant (6.4.4.1), or `None` where the text is none or no type
+/// can represent it. One that is printed with a type is read back.
+pub fn read_int_constant(text: &[u8]) -> Option<(u64, IntType)>
+    ensures value { result ≡ constants.int_constant text.now }
+    ensures reads_back { (n : ℕ) (kind : IntType) → n < constants.limit kind
+        → constants.int_constant (constants.printed_int n kind) ≡ Some (n, kind) }
+{
+    let integer = read_integer(text)?;
+    Some((integer.value, type_of(integer)?))
 }
 
 fn simple_escape(byte: u8) -> Option<u64>

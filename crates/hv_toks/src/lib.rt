@@ -9,7 +9,7 @@ mod prefix;
 mod stream;
 mod token;
 
-pub use constants::{Integer, Rank, read_char_constant, read_integer};
+pub use constants::{Integer, Rank, read_char_constant, read_int_constant, read_integer};
 pub use hv_base::{CTok, IntType, Keyword, Punct};
 pub use macros::{Body, Meaning};
 pub use parted::{Failing, Parted};
