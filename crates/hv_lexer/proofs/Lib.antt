@@ -21,3 +21,4 @@ pub mod LongestStops
 pub mod Total
 pub mod Unspliced
 pub mod PrefixCases
+pub mod WholeToken

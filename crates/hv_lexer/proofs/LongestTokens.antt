@@ -75,7 +75,7 @@ longest_token-most text Other = rw (longest-none (is_spelling Other) text (λ x 
 
 -- the token that comes first
 
-abbrev Longest : List ℕ → Match → Type 0
+abbrev pub Longest : List ℕ → Match → Type 0
 Longest text m = IsLongestToken m.kind (take m.len text) (drop m.len text)
 
 plain-longest : (kind : PpKind) (n : ℕ) (text : List ℕ) → is_spelling kind (take n text) ≡ true → ((other : PpKind) → longest (is_spelling other) text ≤ n)
@@ -148,7 +148,7 @@ of_view line byte bytes f m view_open e = cc
 of_view line byte bytes f m (view_block n a b) e = cc
 of_view line byte bytes f m view_token e = cc
 
-prefix-longest : (line : LinePrefix) (text : List ℕ) (m : Match) → prefix line text ≡ Token m → Longest text m
+pub prefix-longest : (line : LinePrefix) (text : List ℕ) (m : Match) → prefix line text ≡ Token m → Longest text m
 prefix-longest line [] m e = absurd (cc)
 prefix-longest line (byte ∷ bytes) m e =
     let p = of_view line byte bytes _ m (view line byte bytes) e in

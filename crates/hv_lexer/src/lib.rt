@@ -14,12 +14,14 @@ mod gap;
 mod prefix;
 mod punctuator;
 mod refusal;
+mod whole;
 
 use cursor::Cursor;
 use hv_base::List;
 use hv_toks::PpTok;
 pub use refusal::LexRefusal;
 use std::alloc::Global;
+pub use whole::whole_token;
 
 /// Cuts the file of this number into its preprocessing tokens, or refuses it for a comment that is not
 /// closed. Want of memory may be answered at any file.

@@ -1,7 +1,7 @@
 -- How a source file is cut into preprocessing tokens, translation phase 3 (5.1.1.2, 6.4): from the left,
 -- white space and comments, or else the longest token.
-use Rattle.std.specs.Prelude.{ℕ, zero, suc, ◌+◌, ◌-◌, ◌≡◌, Bool, true, false, cond, ◌&&◌, ◌||◌, ◌==◌, nat_lt, nat_eq, List, [], ◌∷◌, codes, take, drop, length, slice_index}
-use Rattle.std.specs.List.{starts_with}
+use Rattle.std.specs.Prelude.{ℕ, zero, suc, ◌+◌, ◌-◌, ◌≡◌, Bool, true, false, cond, ◌&&◌, ◌||◌, ◌==◌, nat_lt, nat_eq, List, [], ◌∷◌, codes, take, drop, length, slice_index, Option, Some, None}
+use Rattle.std.specs.List.{list_any, starts_with}
 use Rattle.std.specs.Str.{bytes_eq}
 use Rattle.hv_base.specs.Ascii as ascii
 use Rattle.hv_base.specs.Ascii.{is_line_space}
@@ -74,6 +74,20 @@ prefix line (byte ∷ bytes) =
     (cond (starts_with nat_eq (byte ∷ bytes) (codes "//")) (Comment (line_len (byte ∷ bytes)))
     (cond (starts_with nat_eq (byte ∷ bytes) (codes "/*")) (block_comment (byte ∷ bytes))
     (Token (token_at line (byte ∷ bytes))))))
+
+-- the kind of what a text of this length begins with, where that is all of it and a token
+abbrev pub whole_kind : ℕ → Prefix → Option PpKind
+whole_kind len End = None
+whole_kind len WhiteSpace = None
+whole_kind len Newline = None
+whole_kind len (Comment n) = None
+whole_kind len OpenComment = None
+whole_kind len (Token m) = cond (m.len == len) (Some m.kind) None
+
+-- the kind of a text that is one preprocessing token, as the result of `##` must be (6.10.3.3); none where it is more
+-- or less than one. No header name: `##` makes none. Only here a text has newlines, which no token has
+abbrev pub whole_token : List ℕ → Option PpKind
+whole_token text = cond (list_any (λ byte. byte == ascii.newline) text) None (whole_kind (length text) (prefix Rest text))
 
 -- what stands on the line after a token of this spelling
 abbrev pub line_after : LinePrefix → List ℕ → LinePrefix
