@@ -1,0 +1,17 @@
+-- What is proved of the grammar.
+use Rattle.std.specs.Prelude.{◌≡◌, ℕ, List, [], map}
+use Rattle.hv_ctree.specs.tree.Expressions.{Expr}
+use Rattle.hv_ctree.specs.tree.Statements.{Skeleton}
+use Rattle.hv_grammar.specs.Symbols.{Marked}
+use Rattle.hv_grammar.specs.Expressions.{Reads}
+use Rattle.hv_grammar.specs.Elements.{Standing, ReadsElement}
+use Rattle.hv_grammar.specs.Tokens.{tokens_of, own_tokens}
+
+-- the tokens that an expression was read from are those of its tree
+abbrev pub ExpressionsKeepTokens : Type 0
+ExpressionsKeepTokens = (d k : ℕ) (ts : List Marked) (a : Expr) → Reads d k ts [] a → map (λ t. t.token.symbol) ts ≡ tokens_of a
+
+-- the tokens that an element was read from are its tree's own tokens
+abbrev pub ElementsKeepTokens : Type 0
+ElementsKeepTokens = (s : Standing) (ts : List Marked) (k : Skeleton) → ReadsElement s ts [] k
+    → map (λ t. t.token.symbol) ts ≡ own_tokens k

@@ -1,0 +1,8 @@
+//! What is proved of the grammar, each law on a call that does nothing.
+ghost use Rattle.hv_grammar.specs.Laws.{ElementsKeepTokens, ExpressionsKeepTokens};
+
+/// Does nothing. Its contract says that a tree has exactly the tokens that it was read from.
+pub fn keeps_tokens()
+    ensures expressions { ExpressionsKeepTokens }
+    ensures elements { ElementsKeepTokens }
+{}

@@ -1,0 +1,6 @@
+//! The grammar of the profile, as definitions: which tokens derive which tree, and which token is refused first.
+#![tactic(auto)]
+
+mod laws;
+
+pub use laws::keeps_tokens;
