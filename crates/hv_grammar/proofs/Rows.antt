@@ -2,8 +2,8 @@
 use Rattle.std.proofs.Common.{◌≡◌, ℕ, zero, suc, List, [], ◌∷◌, true, false, refl}
 use Rattle.std.specs.Prelude.{codes, is_some}
 use Rattle.hv_base.specs.declared.place.Place.{Place}
-use Rattle.hv_base.specs.declared.token.Keyword.TheVariants as keywords
-use Rattle.hv_base.specs.declared.token.Punct.TheVariants as puncts
+use Rattle.hv_base.specs.declared.keyword.Keyword.TheVariants as keywords
+use Rattle.hv_base.specs.declared.punct.Punct.TheVariants as puncts
 use Rattle.hv_base.specs.declared.token.IntType.TheVariants as kinds
 use Rattle.hv_ctree.specs.declared.tree.words.AssignmentOperator.TheVariants.{Plain}
 use Rattle.hv_ctree.specs.declared.tree.words.Constant.TheVariants.{Integer}

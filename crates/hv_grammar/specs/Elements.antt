@@ -5,8 +5,8 @@
 -- Not in here: what stands in the holes (Programs).
 use Rattle.std.specs.Prelude.{ℕ, suc, Bool, List, ◌∷◌, Option, Some, None}
 use Rattle.hv_base.specs.declared.place.Place.{Place}
-use Rattle.hv_base.specs.declared.token.Keyword.TheVariants as keywords
-use Rattle.hv_base.specs.declared.token.Punct.TheVariants as puncts
+use Rattle.hv_base.specs.declared.keyword.Keyword.TheVariants as keywords
+use Rattle.hv_base.specs.declared.punct.Punct.TheVariants as puncts
 use Rattle.hv_ctree.specs.tree.Expressions.{Expr, Specifiers, Declarator, place_of}
 use Rattle.hv_ctree.specs.tree.Statements.{Designation, no_designation, of_index, of_member, Initializer, value, braced, Initializers, no_initializers, then_initializer, InitDeclarator, bare, initialized, InitDeclarators, no_init_declarators, then_init_declarator, Declaration, declaration, Skeleton, hollow_empty, hollow_declaration, hollow_function, hollow_case, hollow_default, hollow_compound, hollow_expression, hollow_if, hollow_if_else, hollow_switch, hollow_while, hollow_do_while, hollow_for, hollow_for_declaration, hollow_continue, hollow_break, hollow_return}
 use Rattle.hv_grammar.specs.Symbols.{Symbol, keyword, name, sign, hole, outside, Marked, at, BeginsAt, left_paren, right_paren, left_bracket, right_bracket, left_brace, right_brace, comma_sign, colon, semicolon, equal_sign}

@@ -6,8 +6,8 @@
 -- Not in here: which names are typedef names (Scopes), limits (Refusal), statements (Elements).
 use Rattle.std.specs.Prelude.{ℕ, zero, suc, Bool, true, false, List, ◌∷◌, IsTrue}
 use Rattle.hv_base.specs.declared.place.Place.{Place}
-use Rattle.hv_base.specs.declared.token.Keyword.TheVariants as keywords
-use Rattle.hv_base.specs.declared.token.Punct.TheVariants as puncts
+use Rattle.hv_base.specs.declared.keyword.Keyword.TheVariants as keywords
+use Rattle.hv_base.specs.declared.punct.Punct.TheVariants as puncts
 use Rattle.hv_ctree.specs.declared.tree.words.AssignmentOperator.{AssignmentOperator}
 use Rattle.hv_ctree.specs.declared.tree.words.BinaryOperator.{BinaryOperator}
 use Rattle.hv_ctree.specs.declared.tree.words.Constant.{Constant}

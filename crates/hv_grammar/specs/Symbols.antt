@@ -1,10 +1,10 @@
 -- What the grammar reads: terminals, tokens with their places, and tokens with the marks of what is open there.
 use Rattle.std.specs.Prelude.{ℕ, List, ◌∷◌}
 use Rattle.hv_base.specs.declared.place.Place.{Place}
-use Rattle.hv_base.specs.declared.token.Keyword.{Keyword}
-use Rattle.hv_base.specs.declared.token.Keyword.TheVariants as keywords
-use Rattle.hv_base.specs.declared.token.Punct.{Punct}
-use Rattle.hv_base.specs.declared.token.Punct.TheVariants as puncts
+use Rattle.hv_base.specs.declared.keyword.Keyword.{Keyword}
+use Rattle.hv_base.specs.declared.keyword.Keyword.TheVariants as keywords
+use Rattle.hv_base.specs.declared.punct.Punct.{Punct}
+use Rattle.hv_base.specs.declared.punct.Punct.TheVariants as puncts
 use Rattle.hv_ctree.specs.declared.tree.words.AssignmentOperator.{AssignmentOperator}
 use Rattle.hv_ctree.specs.declared.tree.words.AssignmentOperator.TheVariants as assignments
 use Rattle.hv_ctree.specs.declared.tree.words.BinaryOperator.{BinaryOperator}
