@@ -22,3 +22,4 @@ pub mod Total
 pub mod Unspliced
 pub mod PrefixCases
 pub mod WholeToken
+pub mod HeaderNames

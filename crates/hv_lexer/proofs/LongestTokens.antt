@@ -18,8 +18,7 @@ use Rattle.hv_toks.specs.Cutting.{Cutting, Cuts, IsCut, tokens, open_comment, pr
 use Rattle.hv_lexer.specs.Laws.{NoneLonger, begins_with_quote, IsLongestToken, IsLongestAtItsPlace, AreLongest}
 use Rattle.hv_lexer.specs.Printed.{is_spelling}
 use Rattle.hv_lexer.proofs.LongestLemmas.{longest-is, longest-none}
-use Rattle.hv_lexer.proofs.MadeOf.{same_take}
-use Rattle.hv_lexer.proofs.Rises.{dropped, same_lengths, taken-first, token-fits}
+use Rattle.hv_lexer.proofs.Rises.{dropped, same_lengths, same_take, taken-first, token-fits}
 use Rattle.hv_lexer.proofs.Spliced.{is_spliced}
 use Rattle.hv_lexer.proofs.PrefixCases.{View, view, view_newline, view_white, view_line, view_open, view_block, view_token, token_at-fits}
 
@@ -32,7 +31,7 @@ none_beyond : (test : List ℕ → Bool) (text : List ℕ) (n : ℕ) → longest
 none_beyond test text n h = λ k some within.
     rw (take_both n k text) ((longest-is test text).1 (n + k) (omega arith) (omega (arith, length-drop n text)))
 
-none_at_all : (test : List ℕ → Bool) (text : List ℕ) → longest test text ≤ 0 → NoneLonger test [] text
+pub none_at_all : (test : List ℕ → Bool) (text : List ℕ) → longest test text ≤ 0 → NoneLonger test [] text
 none_at_all test text h = λ k some within. (longest-is test text).1 k (omega arith) within
 
 -- the longest of the categories
@@ -108,7 +107,7 @@ other-longest byte bytes within h =
 positive : (n : ℕ) → nat_lt 0 n ≡ true → 0 < n
 positive n e = grind (arith, nat_tests)
 
-nothing_found : (n : ℕ) → nat_lt 0 n ≡ false → n ≤ 0
+pub nothing_found : (n : ℕ) → nat_lt 0 n ≡ false → n ≤ 0
 nothing_found n e = grind (arith, nat_tests)
 
 second : (a b : Bool) → (a && b) ≡ true → b ≡ true
@@ -116,7 +115,7 @@ second true b e = e
 second false b e = absurd (cc)
 
 -- by whether one of the categories was found
-abbrev plain_at : Bool → List ℕ → Match
+abbrev pub plain_at : Bool → List ℕ → Match
 plain_at found text = cond found (longest_token text) (other text)
 
 plain_at-longest : (byte : ℕ) (bytes : List ℕ) (t : Bool) → nat_lt 0 (longest_token (byte ∷ bytes)).len ≡ t → (plain_at t (byte ∷ bytes)).len ≤ length (byte ∷ bytes)
@@ -140,7 +139,7 @@ header_at-longest line byte bytes true e within =
     ((longest-is is_header_name text).0 (positive n (second (is_include line) _ e)), none_beyond is_header_name text n (omega arith))
 header_at-longest line byte bytes false e within = plain_at-longest byte bytes _ refl within
 
-of_view : (line : LinePrefix) (byte : ℕ) (bytes : List ℕ) (f : Prefix) (m : Match) → View line byte bytes f → f ≡ Token m → token_at line (byte ∷ bytes) ≡ m
+pub of_view : (line : LinePrefix) (byte : ℕ) (bytes : List ℕ) (f : Prefix) (m : Match) → View line byte bytes f → f ≡ Token m → token_at line (byte ∷ bytes) ≡ m
 of_view line byte bytes f m (view_newline a) e = cc
 of_view line byte bytes f m (view_white a) e = cc
 of_view line byte bytes f m (view_line a) e = cc

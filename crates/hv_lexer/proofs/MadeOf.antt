@@ -1,37 +1,53 @@
--- Between the tokens of a cutting there is nothing but white space and comments.
+-- Between the tokens of a cutting there is nothing but white space and comments; when a token has `space` and `first`.
 use Rattle.std.proofs.Common.{◌≡◌, ℕ, zero, suc, ◌+◌, Bool, true, false, List, [], ◌∷◌, ◌++◌, cond, refl, ◌∙◌, ◌-◌, ap, arith, length, take, drop, append_assoc, one-add, ◌⊎◌, inl, inr}
-use Rattle.std.specs.Prelude.{nat_eq, ◌==◌, not, codes, slice_index}
+use Rattle.std.specs.Prelude.{nat_eq, ◌==◌, ◌&&◌, not, codes, slice_index}
 use Rattle.std.specs.List.{starts_with, list_all}
-use Rattle.std.proofs.lemmas.List.{take-append-drop, length-take, length-append}
+use Rattle.std.proofs.lemmas.Bool.Decides.{nat_tests}
+use Rattle.std.proofs.lemmas.List.{take-append-drop, length-append}
 use Rattle.hv_base.specs.Ascii.{is_line_space}
 use Rattle.hv_toks.specs.declared.prefix.Prefix.{Prefix}
 use Rattle.hv_toks.specs.declared.prefix.Prefix.TheVariants.{End, WhiteSpace, Newline, Comment}
 use Rattle.hv_toks.specs.declared.prefix.LinePrefix.{LinePrefix}
 use Rattle.hv_toks.specs.declared.token.PpTok.{PpTok}
 use Rattle.hv_toks.specs.Splices.{spliced, offsets}
-use Rattle.hv_toks.specs.Cutting.{Cutting, Cuts, IsCut, tokens, open_comment, prepend, at_end, at_white, at_newline, at_comment, at_open_comment, at_token, prefix, ends_line, line_len, closing_len}
-use Rattle.hv_lexer.specs.Laws.{IsLineComment, IsBlockComment, IsGap, nothing, white, line_comment, block_comment, IsParted, Parted, last, next}
-use Rattle.hv_lexer.proofs.Rises.{dropped, same_lengths}
+use Rattle.hv_toks.specs.Cutting.{Cutting, Cuts, IsCut, tokens, open_comment, prepend, at_end, at_white, at_newline, at_comment, at_open_comment, at_token, prefix, token, is_start, is_include, ends_line, line_len, closing_len}
+use Rattle.hv_lexer.specs.Laws.{GapItem, blank, line_end, comment, IsLineComment, IsBlockComment, IsGap, nothing, white, newline, line_comment, block_comment, is_spaced, is_line_begun, follows_include, IsHeaderRight, IsMadeOf, MadeOf, last, next}
+use Rattle.hv_lexer.proofs.Rises.{dropped, same_lengths, same_take}
 use Rattle.hv_lexer.proofs.Spliced.{is_spliced}
+use Rattle.hv_lexer.proofs.HeaderNames.{Agrees, agrees-after, header-right, may-be, no_start}
 use Rattle.hv_lexer.proofs.ByteTests.{not_both, never_both, two, or-left, or-right, first_fails, other_way}
 use Rattle.hv_lexer.proofs.PrefixCases.{View, view, view_newline, view_white, view_line, view_open, view_block, view_token}
 
--- a text with more before it
-extended : (prefix prefixes : List ℕ) {toks : List PpTok} {rest more : List ℕ} → length prefix ≡ length prefixes → ((gap : List ℕ) → IsGap gap → IsGap (prefix ++ gap))
-    → Parted toks rest more → Parted toks (prefix ++ rest) (prefixes ++ more)
-extended prefix prefixes same extend (last g) = last (extend _ g)
-extended prefix prefixes same extend (next tok gap rest before here more g len a b c p) =
-    let both : length (prefix ++ gap) ≡ length (prefixes ++ before) = simp length-append (omega arith) in
-    rw (← append_assoc prefix gap (tok.text ++ rest), ← append_assoc prefixes before (here ++ more))
-    (next tok (prefix ++ gap) rest (prefixes ++ before) here more (extend gap g) both a b c p)
+------ a gap with more before it
 
-pub same_take : (n : ℕ) (text places : List ℕ) → length text ≡ length places → length (take n text) ≡ length (take n places)
-same_take n text places same = simp length-take (rw same refl)
+spaced-on : (item : GapItem) (spaced : Bool) (items : List GapItem) → is_spaced (is_spaced spaced (item ∷ [])) items ≡ is_spaced spaced (item ∷ items)
+spaced-on blank spaced items = refl
+spaced-on line_end spaced items = refl
+spaced-on comment spaced items = refl
 
-gapped : (n : ℕ) (text places : List ℕ) (toks : List PpTok) → length text ≡ length places → ((gap : List ℕ) → IsGap gap → IsGap (take n text ++ gap))
-    → Parted toks (drop n text) (drop n places) → Parted toks text places
-gapped n text places toks same extend p =
-    let whole = extended (take n text) (take n places) (same_take n text places same) extend p in
+begun-on : (item : GapItem) (begins : Bool) (items : List GapItem) → is_line_begun (is_line_begun begins (item ∷ [])) items ≡ is_line_begun begins (item ∷ items)
+begun-on blank begins items = refl
+begun-on line_end begins items = refl
+begun-on comment begins items = refl
+
+abbrev Extends : GapItem → List ℕ → Type 0
+Extends item prefix = (items : List GapItem) (gap : List ℕ) → IsGap items gap → IsGap (item ∷ items) (prefix ++ gap)
+
+extended : (item : GapItem) (prefix prefixes : List ℕ) (before : List PpTok) (begins spaced : Bool) (toks : List PpTok) (rest more : List ℕ)
+    → length prefix ≡ length prefixes → Extends item prefix
+    → MadeOf before (is_line_begun begins (item ∷ [])) (is_spaced spaced (item ∷ [])) toks rest more
+    → MadeOf before begins spaced toks (prefix ++ rest) (prefixes ++ more)
+extended item prefix prefixes before begins spaced [] rest more same extend (last {items = items} g) = last (extend items _ g)
+extended item prefix prefixes before begins spaced (_ ∷ toks) _ _ same extend (next tok items gap rest earlier here more g len a b c s f h p) =
+    let both : length (prefix ++ gap) ≡ length (prefixes ++ earlier) = simp length-append (omega arith) in
+    rw (← append_assoc prefix gap (tok.text ++ rest), ← append_assoc prefixes earlier (here ++ more))
+    (next tok (item ∷ items) (prefix ++ gap) rest (prefixes ++ earlier) here more (extend items gap g) both a b c
+    (s ∙ spaced-on item spaced items) (f ∙ begun-on item begins items) h p)
+
+gapped : (item : GapItem) (n : ℕ) (text places : List ℕ) (before : List PpTok) (begins spaced : Bool) (toks : List PpTok) → length text ≡ length places → Extends item (take n text)
+    → MadeOf before (is_line_begun begins (item ∷ [])) (is_spaced spaced (item ∷ [])) toks (drop n text) (drop n places) → MadeOf before begins spaced toks text places
+gapped item n text places before begins spaced toks same extend p =
+    let whole = extended item (take n text) (take n places) before begins spaced toks (drop n text) (drop n places) (same_take n text places same) extend p in
     rw take-append-drop at (rw take-append-drop at whole)
 
 no_line_end : (byte : ℕ) (bytes : List ℕ) → ends_line (byte ∷ bytes) ≡ false → (byte == 10) ≡ false
@@ -157,55 +173,67 @@ of_comment line byte bytes f n view_token e = absurd (cc)
 
 -- the prefixes of a text
 
-abbrev Extends : List ℕ → Type 0
-Extends prefix = (gap : List ℕ) → IsGap gap → IsGap (prefix ++ gap)
+is_newline : (byte : ℕ) → (byte == 10) ≡ true → byte ≡ 10
+is_newline byte e = grind (arith, nat_tests)
 
 prefix-end : (line : LinePrefix) (text : List ℕ) → prefix line text ≡ End → text ≡ []
 prefix-end line [] e = refl
 prefix-end line (byte ∷ bytes) e = no_end line byte bytes _ (view line byte bytes) e
 
-prefix-white : (line : LinePrefix) (text : List ℕ) → prefix line text ≡ WhiteSpace → Extends (take 1 text)
+prefix-white : (line : LinePrefix) (text : List ℕ) → prefix line text ≡ WhiteSpace → Extends blank (take 1 text)
 prefix-white line [] e = absurd (cc)
-prefix-white line (byte ∷ bytes) e = λ gap g. white (or-left _ _ (of_white line byte bytes _ (view line byte bytes) e)) g
+prefix-white line (byte ∷ bytes) e = λ items gap g. white (of_white line byte bytes _ (view line byte bytes) e) g
 
-prefix-newline : (line : LinePrefix) (text : List ℕ) → prefix line text ≡ Newline → Extends (take 1 text)
+prefix-newline : (line : LinePrefix) (text : List ℕ) → prefix line text ≡ Newline → Extends line_end (take 1 text)
 prefix-newline line [] e = absurd (cc)
-prefix-newline line (byte ∷ bytes) e = λ gap g. white (or-right _ _ (of_newline line byte bytes _ (view line byte bytes) e)) g
+prefix-newline line (byte ∷ bytes) e = λ items gap g. rw (is_newline byte (of_newline line byte bytes _ (view line byte bytes) e)) (newline g)
 
-prefix-comment : (line : LinePrefix) (text : List ℕ) (n : ℕ) → prefix line text ≡ Comment n → Extends (take n text)
+prefix-comment : (line : LinePrefix) (text : List ℕ) (n : ℕ) → prefix line text ≡ Comment n → Extends comment (take n text)
 prefix-comment line [] n e = absurd (cc)
 prefix-comment line (byte ∷ bytes) n e =
     elim (of_comment line byte bytes _ n (view line byte bytes) e) [
-      | inl is_line ↦ λ gap g. line_comment (take n (byte ∷ bytes)) gap is_line g
-      | inr is_block ↦ λ gap g. block_comment (take n (byte ∷ bytes)) gap is_block g
+      | inl is_line ↦ λ items gap g. line_comment (take n (byte ∷ bytes)) gap is_line g
+      | inr is_block ↦ λ items gap g. block_comment (take n (byte ∷ bytes)) gap is_block g
     ]
 
 -- the tokens of a cutting, if it has some
-abbrev Parts : (text places : List ℕ) → Cutting → Type 0
-Parts text places (tokens toks) = Parted toks text places
-Parts text places (open_comment offset) = Unit {0}
+abbrev Parts : (before : List PpTok) (begins spaced : Bool) (text places : List ℕ) → Cutting → Type 0
+Parts before begins spaced text places (tokens toks) = MadeOf before begins spaced toks text places
+Parts before begins spaced text places (open_comment offset) = Unit {0}
 
-grown : (n : ℕ) (text places : List ℕ) (out : Cutting) → length text ≡ length places → Extends (take n text) → Parts (drop n text) (drop n places) out → Parts text places out
-grown n text places (tokens toks) same extend p = gapped n text places toks same extend p
-grown n text places (open_comment offset) same extend p = tt
+grown : (item : GapItem) (n : ℕ) (text places : List ℕ) (before : List PpTok) (begins spaced : Bool) (out : Cutting) → length text ≡ length places → Extends item (take n text)
+    → Parts before (is_line_begun begins (item ∷ [])) (is_spaced spaced (item ∷ [])) (drop n text) (drop n places) out → Parts before begins spaced text places out
+grown item n text places before begins spaced (tokens toks) same extend p = gapped item n text places before begins spaced toks same extend p
+grown item n text places before begins spaced (open_comment offset) same extend p = tt
 
-with_token : (n : ℕ) (text places : List ℕ) (tok : PpTok) (out : Cutting) → length text ≡ length places → tok.text ≡ take n text
+with_token : (n : ℕ) (text places : List ℕ) (tok : PpTok) (before : List PpTok) (begins spaced : Bool) (out : Cutting) → length text ≡ length places → tok.text ≡ take n text
     → tok.span.start ≡ slice_index (take n places) 0 → tok.span.end ≡ slice_index (take n places) (length (take n places) - 1) + 1
-    → Parts (drop n text) (drop n places) out → Parts text places (prepend tok out)
-with_token n text places tok (tokens toks) same e a b p =
+    → tok.space ≡ spaced → tok.first ≡ begins → IsHeaderRight (not tok.first && follows_include before) tok.kind text
+    → Parts (tok ∷ before) false false (drop n text) (drop n places) out → Parts before begins spaced text places (prepend tok out)
+with_token n text places tok before begins spaced (tokens toks) same e a b s f h p =
     let len : length tok.text ≡ length (take n places) = ap length e ∙ same_take n text places same in
-    let whole = next tok [] (drop n text) [] (take n places) (drop n places) nothing refl len a b p in
     let t : tok.text ++ drop n text ≡ text = rw e (take-append-drop n text) in
+    let right : IsHeaderRight (not tok.first && follows_include before) tok.kind (tok.text ++ drop n text) = rw t h in
+    let whole = next {before = before} {begins = begins} {spaced = spaced} tok [] [] (drop n text) [] (take n places) (drop n places) nothing refl len a b s f right p in
     rw (t, take-append-drop n places) at whole
-with_token n text places tok (open_comment offset) same e a b p = tt
+with_token n text places tok before begins spaced (open_comment offset) same e a b s f h p = tt
 
-parts : {file : ℕ} {line : LinePrefix} {space : Bool} {text places : List ℕ} {out : Cutting} → length text ≡ length places → Cuts file line space text places out → Parts text places out
-parts {line = line} {text = text} same (at_end e) = rw (prefix-end line text e) (last nothing)
-parts {line = line} {text = text} {places = places} same (at_white e c) = grown 1 text places _ same (prefix-white line text e) (parts (dropped 1 text places same) c)
-parts {line = line} {text = text} {places = places} same (at_newline e c) = grown 1 text places _ same (prefix-newline line text e) (parts (dropped 1 text places same) c)
-parts {line = line} {text = text} {places = places} same (at_comment n e c) = grown n text places _ same (prefix-comment line text n e) (parts (dropped n text places same) c)
-parts same (at_open_comment e) = tt
-parts {text = text} {places = places} same (at_token m e c) = with_token m.len text places _ _ same refl refl refl (parts (dropped m.len text places same) c)
+parts : {file : ℕ} {line : LinePrefix} {spaced : Bool} {text places : List ℕ} {out : Cutting} (before : List PpTok) → Agrees line before → length text ≡ length places
+    → Cuts file line spaced text places out → Parts before (is_start line) spaced text places out
+parts {line = line} {text = text} before h same (at_end e) = rw (prefix-end line text e) (last nothing)
+parts {line = line} {spaced = spaced} {text = text} {places = places} before h same (at_white e c) =
+    grown blank 1 text places before (is_start line) spaced _ same (prefix-white line text e) (parts before h (dropped 1 text places same) c)
+parts {line = line} {spaced = spaced} {text = text} {places = places} before h same (at_newline e c) =
+    grown line_end 1 text places before (is_start line) spaced _ same (prefix-newline line text e) (parts before tt (dropped 1 text places same) c)
+parts {line = line} {spaced = spaced} {text = text} {places = places} before h same (at_comment n e c) =
+    grown comment n text places before (is_start line) spaced _ same (prefix-comment line text n e) (parts before h (dropped n text places same) c)
+parts before h same (at_open_comment e) = tt
+parts {file = file} {line = line} {spaced = spaced} {text = text} {places = places} before h same (at_token {out = out} m e c) =
+    let tok : PpTok = token file line spaced m.kind (take m.len text) (take m.len places) in
+    let may : (not (is_start line) && follows_include before) ≡ is_include line = may-be line before h in
+    let right : IsHeaderRight (not (is_start line) && follows_include before) m.kind text = rw may (header-right line text m e) in
+    let more = parts (tok ∷ before) (agrees-after line tok before refl h) (dropped m.len text places same) c in
+    with_token m.len text places tok before (is_start line) spaced out same refl refl refl refl refl right (rw (no_start line (take m.len text)) at more)
 
-pub lex-parts : (file : ℕ) (bytes : List ℕ) (toks : List PpTok) → IsCut file bytes (tokens toks) → IsParted toks bytes
-lex-parts file bytes toks c = (spliced bytes, (offsets bytes, (is_spliced bytes, parts (same_lengths bytes) c)))
+pub lex-made : (file : ℕ) (bytes : List ℕ) (toks : List PpTok) → IsCut file bytes (tokens toks) → IsMadeOf toks bytes
+lex-made file bytes toks c = (spliced bytes, (offsets bytes, (is_spliced bytes, parts [] tt (same_lengths bytes) c)))

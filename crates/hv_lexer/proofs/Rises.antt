@@ -1,6 +1,6 @@
 -- The spans of a cutting rise.
 use Rattle.std.proofs.Common.{◌≡◌, ℕ, zero, suc, ◌+◌, ◌-◌, ◌<◌, ◌≤◌, Bool, List, [], ◌∷◌, refl, sym, ◌∙◌, arith, length, get_or, take, drop}
-use Rattle.std.proofs.lemmas.List.{length-take-le, get_or-take, length-drop, length-map}
+use Rattle.std.proofs.lemmas.List.{length-take, length-take-le, get_or-take, length-drop, length-map}
 use Rattle.hv_toks.specs.declared.prefix.Prefix.{Prefix}
 use Rattle.hv_toks.specs.declared.prefix.Prefix.TheVariants.{Token}
 use Rattle.hv_toks.specs.declared.prefix.LinePrefix.{LinePrefix}
@@ -100,6 +100,9 @@ rises-token file low high line space text ps m n (tokens toks) e h r more =
 
 pub dropped : (n : ℕ) (xs ys : List ℕ) → length xs ≡ length ys → length (drop n xs) ≡ length (drop n ys)
 dropped n xs ys e = simp length-drop (rw e refl)
+
+pub same_take : (n : ℕ) (text places : List ℕ) → length text ≡ length places → length (take n text) ≡ length (take n places)
+same_take n text places same = simp length-take (rw same refl)
 
 pub rises : (file low high : ℕ) {line : LinePrefix} {space : Bool} {text ps : List ℕ} {out : Cutting} → length text ≡ length ps → Rising low high ps
     → Cuts file line space text ps out → Rises file low high out

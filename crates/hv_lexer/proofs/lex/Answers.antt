@@ -1,7 +1,7 @@
 use Rattle.hv_lexer.specs.working.Cursors.{text_of, places_of}
 use Rattle.hv_lexer.proofs.LongestTokens.{lex-longest}
 use Rattle.hv_lexer.proofs.OneAnswer.{if_cut, tells}
-use Rattle.hv_lexer.proofs.MadeOf.{lex-parts}
+use Rattle.hv_lexer.proofs.MadeOf.{lex-made}
 use Rattle.hv_lexer.proofs.ReadsBack.{restores}
 use Rattle.hv_lexer.proofs.Rises.{lex-rises}
 use Rattle.hv_lexer.proofs.Total.{total}
@@ -20,10 +20,10 @@ returns-clause-rising c =
     if_cut c.args.file c.args.bytes.now (text_of c.new.result) (places_of c.new.result) c.cut.result _
     c.new.ensures.text c.new.ensures.places (lex-rises c.args.file c.args.bytes.now) c.cut.ensures.ok
 
-pub returns-clause-parted : goal.returns-clause-parted
-returns-clause-parted c =
+pub returns-clause-made_of : goal.returns-clause-made_of
+returns-clause-made_of c =
     if_cut c.args.file c.args.bytes.now (text_of c.new.result) (places_of c.new.result) c.cut.result _
-    c.new.ensures.text c.new.ensures.places (lex-parts c.args.file c.args.bytes.now) c.cut.ensures.ok
+    c.new.ensures.text c.new.ensures.places (lex-made c.args.file c.args.bytes.now) c.cut.ensures.ok
 
 pub returns-clause-longest : goal.returns-clause-longest
 returns-clause-longest c =
