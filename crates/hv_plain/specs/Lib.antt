@@ -5,3 +5,4 @@ pub mod Run
 pub mod SmallReader
 pub mod Source
 pub mod controlling
+pub mod gathering

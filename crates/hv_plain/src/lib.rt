@@ -3,10 +3,12 @@
 #![tactic(auto)]
 
 mod controlling;
+mod gathering;
 mod numeral;
 mod small;
 
 pub use controlling::{Binary, Operand, SIGNED_SUFFIXES, Symbol, UNSIGNED_SUFFIXES, Unary};
+pub use gathering::builtin_header;
 pub use numeral::byte_of;
 pub use small::small_run;
 

@@ -1,0 +1,3 @@
+mod headers;
+
+pub use headers::builtin_header;
