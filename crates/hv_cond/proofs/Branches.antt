@@ -6,7 +6,7 @@ use Rattle.hv_cond.specs.declared.conditions.Cond.{Cond}
 use Rattle.hv_cond.specs.declared.conditions.Node.TheVariants.{Truth, Falsity, Branch}
 use Rattle.hv_cond.specs.declared.nodes.Decision.{Decision}
 use Rattle.hv_cond.specs.Diagram.{top, value_of, node_in, holds_in}
-use Rattle.hv_cond.specs.Nodes.{choice, level, place_of, same_decision, IsDecision, IsOrdered, IsBranch}
+use Rattle.hv_cond.specs.working.Nodes.{choice, level, place_of, same_decision, IsDecision, IsOrdered, IsBranch}
 
 pub Cond-same : (a b : Cond) → a.index ≡ b.index → a ≡ b
 Cond-same a b e = ap (λ (i : ℕ). let c : Cond = record { index = i } in c) e

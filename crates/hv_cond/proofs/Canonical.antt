@@ -6,7 +6,7 @@ use Rattle.std.proofs.lemmas.List.{get_or-set_same, get_or-set_other, length-set
 use Rattle.hv_cond.specs.declared.conditions.Cond.{Cond}
 use Rattle.hv_cond.specs.declared.nodes.Decision.{Decision}
 use Rattle.hv_cond.specs.Diagram.{top, value_of, holds_in}
-use Rattle.hv_cond.specs.Nodes.{choice, level, place_of, IsDecision, IsOrdered, IsBranch}
+use Rattle.hv_cond.specs.working.Nodes.{choice, level, place_of, IsDecision, IsOrdered, IsBranch}
 use Rattle.hv_cond.proofs.Branches.{Cond-same, Decision-same, holds_in-top, holds_in-below, holds_in-terminal, holds_in-set, branch_at_level}
 
 -- the two terminals differ

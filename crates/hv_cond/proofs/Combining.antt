@@ -9,9 +9,9 @@ use Rattle.hv_cond.specs.declared.nodes.Decision.{Decision}
 use Rattle.hv_cond.specs.declared.nodes.Nodes.{Nodes}
 use Rattle.hv_cond.specs.declared.results.Results.{Results}
 use Rattle.hv_cond.specs.Diagram.{top, holds_in, value_of}
-use Rattle.hv_cond.specs.Nodes.{newest_first, level, Extends, Within, IsClosed, IsHalves, IsOrdered, IsReduced, MayBranch}
-use Rattle.hv_cond.specs.Results.{known, is_same_pair, ordered_pair}
-use Rattle.hv_cond.specs.Connectives.{apply, absorbing, neutral, AreAnswers, Grows, IsAnswer}
+use Rattle.hv_cond.specs.working.Nodes.{newest_first, level, Extends, Within, IsClosed, IsHalves, IsOrdered, IsReduced, MayBranch}
+use Rattle.hv_cond.specs.working.Results.{known, is_same_pair, ordered_pair}
+use Rattle.hv_cond.specs.working.Connectives.{apply, absorbing, neutral, AreAnswers, Grows, IsAnswer}
 use Rattle.hv_cond.proofs.Branches.{Cond-same, holds_in-terminal, holds_in-set, level-le}
 use Rattle.hv_cond.proofs.Canonical.{level_from_meaning}
 use Rattle.hv_cond.proofs.Counts.{open_pairs-answered}

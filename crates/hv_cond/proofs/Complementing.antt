@@ -6,9 +6,9 @@ use Rattle.hv_cond.specs.declared.complements.Complements.{Complements}
 use Rattle.hv_cond.specs.declared.conditions.Cond.{Cond}
 use Rattle.hv_cond.specs.declared.nodes.Decision.{Decision}
 use Rattle.hv_cond.specs.declared.nodes.Nodes.{Nodes}
-use Rattle.hv_cond.specs.Complements.{complement_of, same_cond, AreComplements, GrowsBy, IsComplement}
+use Rattle.hv_cond.specs.working.Complements.{complement_of, same_cond, AreComplements, GrowsBy, IsComplement}
 use Rattle.hv_cond.specs.Diagram.{top, holds_in, value_of}
-use Rattle.hv_cond.specs.Nodes.{newest_first, level, Extends, Within, IsBranch, IsClosed, IsOrdered, IsReduced, MayBranch}
+use Rattle.hv_cond.specs.working.Nodes.{newest_first, level, Extends, Within, IsBranch, IsClosed, IsOrdered, IsReduced, MayBranch}
 use Rattle.hv_cond.proofs.Branches.{Cond-same, holds_in-terminal, holds_in-set, level-le}
 use Rattle.hv_cond.proofs.Canonical.{level_from_meaning}
 use Rattle.hv_cond.proofs.Counts.{open_among-answered}

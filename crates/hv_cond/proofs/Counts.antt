@@ -2,8 +2,8 @@
 use Rattle.std.proofs.Common.{◌≡◌, ◌+◌, ◌*◌, ◌≤◌, ℕ, Bool, true, false, cond, List, [], ◌∷◌, length, Option, None, refl, ap, ◌∙◌, ⊎_elim, arith}
 use Rattle.std.specs.Option.{is_some}
 use Rattle.hv_cond.specs.declared.conditions.Cond.{Cond}
-use Rattle.hv_cond.specs.Nodes.{Among}
-use Rattle.hv_cond.specs.Connectives.{open_among, open_pairs}
+use Rattle.hv_cond.specs.working.Nodes.{Among}
+use Rattle.hv_cond.specs.working.Connectives.{open_among, open_pairs}
 
 -- the second has an answer where the first has one
 abbrev pub Fills : (Cond → Option Cond) → (Cond → Option Cond) → Type 0

@@ -4,7 +4,9 @@ pub mod Combining
 pub mod Complementing
 pub mod Counts
 pub mod Lifts
+pub mod OrderLemmas
 pub mod Reached
+pub mod Searching
+pub mod Seen
 pub mod Sound
 pub mod Tables
-pub mod Walking

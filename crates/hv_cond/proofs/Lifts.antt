@@ -3,7 +3,7 @@ use Rattle.std.proofs.Common.{◌≡◌, ◌<◌, ℕ, Bool, List, [], ◌∷◌
 use Rattle.hv_cond.specs.declared.conditions.Cond.{Cond}
 use Rattle.hv_cond.specs.declared.nodes.Decision.{Decision}
 use Rattle.hv_cond.specs.Diagram.{top, node_in, holds_in}
-use Rattle.hv_cond.specs.Nodes.{level, IsClosed}
+use Rattle.hv_cond.specs.working.Nodes.{level, IsClosed}
 use Rattle.hv_cond.proofs.Branches.{holds_in-below, node_in-below, level-below}
 
 -- a node stays one

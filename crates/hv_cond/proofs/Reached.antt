@@ -7,7 +7,7 @@ use Rattle.hv_cond.specs.declared.conditions.Cond.{Cond}
 use Rattle.hv_cond.specs.declared.conditions.Node.TheVariants.{Branch}
 use Rattle.hv_cond.specs.declared.nodes.Decision.{Decision}
 use Rattle.hv_cond.specs.Diagram.{top, node_in, reaches_in}
-use Rattle.hv_cond.specs.Nodes.{Among, Within, IsClosed, IsOrdered}
+use Rattle.hv_cond.specs.working.Nodes.{Among, Within, IsClosed, IsOrdered}
 use Rattle.hv_cond.proofs.Lifts.{node_lifts}
 use Rattle.hv_cond.proofs.Branches.{apart, Cond-same, node_in-top, node_in-below}
 

@@ -10,7 +10,7 @@ use Rattle.hv_cond.specs.declared.conditions.Node.TheVariants.{Branch}
 use Rattle.hv_cond.specs.declared.nodes.Decision.{Decision}
 use Rattle.hv_cond.specs.declared.nodes.Nodes.{Nodes}
 use Rattle.hv_cond.specs.Diagram.{top, value_of, node_in, holds_in}
-use Rattle.hv_cond.specs.Nodes.{choice, newest_first, level, place_of, same_decision, IsDecision, IsOrdered, IsBranch, IsHalves, IsReduced, IsClosed, Extends}
+use Rattle.hv_cond.specs.working.Nodes.{choice, newest_first, level, place_of, same_decision, IsDecision, IsOrdered, IsBranch, IsHalves, IsReduced, IsClosed, Extends}
 use Rattle.hv_cond.proofs.Lifts.{node_lifts, holds_in-append, node_in-append, level-append, IsClosed-append}
 use Rattle.hv_cond.proofs.Branches.{Decision-same, Cond-same, node_in-top, node_in-below, holds_in-top, branch_of}
 

@@ -1,15 +1,18 @@
--- What conditions mean. A store is seen as a diagram: how many variables there are, and its branches.
--- Nothing here makes a branch: how conditions are combined, and that a diagram is reduced and in order, is no part of a meaning.
-use Rattle.std.specs.Prelude.{◌≡◌, ◌≢◌, ◌==◌, ◌+◌, ◌<◌, ◌≤◌, ℕ, Bool, true, false, ◌||◌, if◌then◌else◌, List, [], ◌∷◌, length, count_by}
+-- What conditions mean. A store is seen as a diagram: how many variables there are, in which order branches test them, and
+-- its branches. What a condition means goes by the variables' numbers, and the order is no part of it.
+-- Nothing here makes a branch: how conditions are combined, and that a diagram is reduced, is no part of a meaning.
+use Rattle.std.specs.Prelude.{◌≡◌, ◌≢◌, ◌==◌, ◌+◌, ◌<◌, ◌≤◌, ℕ, Bool, true, false, ◌||◌, if◌then◌else◌, List, [], ◌∷◌, length, count_by, slice_index}
 use Rattle.std.specs.List.{slice_index_or, range_with_len}
 use Rattle.hv_cond.specs.declared.conditions.Cond.{Cond}
 use Rattle.hv_cond.specs.declared.conditions.Node.{Node}
 use Rattle.hv_cond.specs.declared.conditions.Node.TheVariants.{Truth, Falsity, Branch}
 use Rattle.hv_cond.specs.declared.nodes.Decision.{Decision}
 
--- The branches stand newest first, so a branch's children are among those after it.
+-- Variables are the numbers below `variables`, and `order` lists them in the order in which branches test them. The
+-- branches stand newest first, so a branch's children are among those after it.
 pub record Diagram : Type 0 where
   pub variables : ℕ
+  pub order : List ℕ
   pub decisions : List Decision
 
 -- the value of a variable
@@ -60,11 +63,17 @@ nodes diagram c = count_by (reaches_in diagram.decisions c) (range_with_len 2 (s
 -- the new diagram has each node of the old one, with what it means and what it is
 pub record Keeps (old new : Diagram) : Type 0 where
   pub variables : new.variables ≡ old.variables
+  pub order : new.order ≡ old.order
   pub stays : (c : Cond) → IsNode old c → IsNode new c
   pub meaning : (c : Cond) → IsNode old c → (values : List Bool) → holds new c values ≡ holds old c values
   pub same_node : (c : Cond) → IsNode old c → node new c ≡ node old c
   pub same_reach : (c : Cond) → IsNode old c → nodes new c ≡ nodes old c
   pub grows : size old ≤ size new
+
+-- each condition of the list is a node of the diagram
+abbrev pub AllNodes : Diagram → List Cond → Type 0
+AllNodes diagram [] = Unit {0}
+AllNodes diagram (c ∷ conds) = IsNode diagram c × AllNodes diagram conds
 
 -- no assignment satisfies the condition
 abbrev pub IsNever : Diagram → Cond → Type 0
@@ -82,21 +91,32 @@ Implies diagram a b = (values : List Bool) → length values ≡ diagram.variabl
 abbrev pub AreDisjoint : Diagram → Cond → Cond → Type 0
 AreDisjoint diagram a b = (values : List Bool) → length values ≡ diagram.variables → holds diagram a values ≡ true → holds diagram b values ≡ false
 
--- a node that is a branch tests a variable after this one
-abbrev pub TestsLater : ℕ → Node → Type 0
-TestsLater i (Branch j low high) = i < j
-TestsLater i Truth = Unit {0}
-TestsLater i Falsity = Unit {0}
+-- one variable stands before another in an order
+pub record IsEarlier (order : List ℕ) (i j : ℕ) : Type 0 where
+  pub place : ℕ
+  pub later_place : ℕ
+  pub before : place < later_place
+  pub within : later_place < length order
+  pub here : slice_index order place ≡ i
+  pub there : slice_index order later_place ≡ j
 
--- a branch means `high` where its variable is true and `low` where it is not; the two differ, and test later variables
+-- a node that is a branch tests a variable that stands after this one in the order
+abbrev pub TestsLater : List ℕ → ℕ → Node → Type 0
+TestsLater order i (Branch j low high) = IsEarlier order i j
+TestsLater order i Truth = Unit {0}
+TestsLater order i Falsity = Unit {0}
+
+-- a branch means `high` where its variable is true and `low` where it is not; the two differ, and test variables that
+-- stand later in the order
 pub record IsChoice (diagram : Diagram) (c : Cond) (i : ℕ) (low high : Cond) : Type 0 where
   pub in_range : i < diagram.variables
   pub low_node : IsNode diagram low
   pub high_node : IsNode diagram high
   pub different : low ≢ high
-  pub low_later : TestsLater i (node diagram low)
-  pub high_later : TestsLater i (node diagram high)
-  pub meaning : (values : List Bool) → holds diagram c values ≡ (if value_of values i then holds diagram high values else holds diagram low values)
+  pub low_later : TestsLater diagram.order i (node diagram low)
+  pub high_later : TestsLater diagram.order i (node diagram high)
+  pub meaning : (values : List Bool) → holds diagram c values
+      ≡ (if value_of values i then holds diagram high values else holds diagram low values)
 
 -- what a node says of the condition
 abbrev pub Describes : Diagram → Cond → Node → Type 0

@@ -1,8 +1,8 @@
-pub mod Complements
-pub mod Connectives
+-- What conditions mean. Read Diagram (what a condition means, what a store keeps, the least assignment), then Order (in
+-- which order a store's branches test the variables), Parts (the parts of a condition) and Laws (laws of these, for proofs
+-- above). `working` is about the store's own tables and steps, and no contract of another crate cites it.
 pub mod Diagram
 pub mod Laws
-pub mod Nodes
-pub mod Paths
-pub mod Results
-pub mod Stores
+pub mod Order
+pub mod Parts
+pub mod working

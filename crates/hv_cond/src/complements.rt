@@ -2,8 +2,8 @@
 ghost use Rattle.std.specs.Prelude.{◌≡◌, ℕ, ◌+◌, ◌<◌, ◌≤◌, List, Bool, not, if◌then◌else◌, IfOk, OnOk};
 ghost use Rattle.std.specs.declared.option.Option.TheVariants.{Some, None};
 ghost use Rattle.hv_cond.specs.Diagram.{holds_in, top, value_of};
-ghost use Rattle.hv_cond.specs.Nodes.{choice, newest_first, IsReduced, MayBranch};
-ghost use Rattle.hv_cond.specs.Complements.{complement_of, room, same_cond, AreComplements, GrowsBy, IsComplement};
+ghost use Rattle.hv_cond.specs.working.Nodes.{choice, newest_first, IsReduced, MayBranch};
+ghost use Rattle.hv_cond.specs.working.Complements.{complement_of, room, same_cond, AreComplements, GrowsBy, IsComplement};
 
 use crate::conditions::Cond;
 use crate::nodes::{Decision, Nodes};

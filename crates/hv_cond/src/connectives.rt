@@ -3,9 +3,9 @@ ghost use Rattle.std.specs.Prelude.{◌≡◌, ℕ, ◌+◌, ◌<◌, ◌≤◌,
 ghost use Rattle.std.specs.declared.option.Option.TheVariants.{Some, None};
 ghost use Rattle.hv_cond.specs.declared.nodes.Decision.{Decision};
 ghost use Rattle.hv_cond.specs.Diagram.{holds_in, top, value_of};
-ghost use Rattle.hv_cond.specs.Nodes.{choice, newest_first, IsReduced, MayBranch};
-ghost use Rattle.hv_cond.specs.Results.{known};
-ghost use Rattle.hv_cond.specs.Connectives.{absorbing, neutral, apply, AreAnswers, Grows, IsAnswer};
+ghost use Rattle.hv_cond.specs.working.Nodes.{choice, newest_first, IsReduced, MayBranch};
+ghost use Rattle.hv_cond.specs.working.Results.{known};
+ghost use Rattle.hv_cond.specs.working.Connectives.{absorbing, neutral, apply, AreAnswers, Grows, IsAnswer};
 
 use crate::conditions::Cond;
 use crate::nodes::{Decision, Nodes};

@@ -6,6 +6,7 @@ mod complements;
 mod conditions;
 mod connectives;
 mod nodes;
+mod orders;
 mod paths;
 mod results;
 mod stores;

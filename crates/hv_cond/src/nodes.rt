@@ -1,7 +1,7 @@
 //! The table of nodes, in which no branch is superfluous and none stands twice.
 ghost use Rattle.std.specs.Prelude.{◌≡◌, ◌≢◌, ℕ, ◌+◌, ◌<◌, ◌≤◌, [], ◌∷◌, ◌++◌, List, Bool, is_ok, length, if◌then◌else◌, IfNone, IfOk, IfSome, OnErr, OnOk};
 ghost use Rattle.hv_cond.specs.Diagram.{holds_in, node_in, top, value_of};
-ghost use Rattle.hv_cond.specs.Nodes.{choice, level, newest_first, place_of, Extends, IsBranch, IsDecision, IsHalves, IsReduced, MayBranch};
+ghost use Rattle.hv_cond.specs.working.Nodes.{choice, level, newest_first, place_of, Extends, IsBranch, IsDecision, IsHalves, IsReduced, MayBranch};
 
 use crate::conditions::{Cond, Node};
 use std::alloc::{AllocError, Global};

@@ -1,6 +1,6 @@
 //! The answers that were computed, so that no pair of nodes is visited twice.
 ghost use Rattle.std.specs.Prelude.{◌≡◌, ◌<◌, if◌then◌else◌, IfOk, OnOk};
-ghost use Rattle.hv_cond.specs.Results.{known, ordered_pair, room, is_same_pair};
+ghost use Rattle.hv_cond.specs.working.Results.{known, ordered_pair, room, is_same_pair};
 ghost use Rattle.std.specs.declared.option.Option.TheVariants.{Some, None};
 
 use crate::conditions::Cond;

@@ -1,20 +1,25 @@
 //! The store of conditions.
 ghost use Rattle.std.specs.Prelude.{◌≡◌, ◌↔◌, ℕ, ◌+◌, ◌*◌, ◌<◌, ◌≤◌, ◌&&◌, ◌||◌, not, true, false, Bool, List, length, IfOk, IfSome, IsNone, IsTrue};
+ghost use Rattle.std.specs.List.{range_with_len};
+ghost use Rattle.hv_cond.specs.declared.conditions.Node.TheVariants.{Falsity};
+ghost use Rattle.hv_cond.specs.Order.{order_from};
 ghost use Rattle.hv_cond.specs.Diagram.{Describes, Diagram, IsLeast, IsNever, IsNode, Keeps, SameMeaning, holds, node, nodes, size, value_of};
 
 use crate::complements::{Complements, complement};
 use crate::conditions::{Cond, Node};
 use crate::connectives::{Connective, combine};
 use crate::nodes::{Decision, Nodes};
+use crate::orders::Order;
 use crate::paths;
 use crate::results::Results;
 use std::alloc::{AllocError, Global};
 use std::marker::Model;
 
-/// Conditions over a fixed number of variables, in one order. Equal conditions are one node. A
-/// store only grows, and a node of it means the same for ever.
+/// Conditions over a fixed number of variables, whose branches test them in one order. Equal
+/// conditions are one node. A store only grows, and a node of it means the same for ever.
 #[derive(Drop)]
 pub struct Store {
+    order: Order,
     nodes: Nodes,
     conjunctions: Results,
     disjunctions: Results,
@@ -26,22 +31,37 @@ impl Model for Store {
 
     ghost Value = { Diagram };
 
-    ghost use Rattle.hv_cond.specs.Nodes.{diagram};
-    ghost use Rattle.hv_cond.specs.Stores.{IsSound};
+    ghost use Rattle.hv_cond.specs.working.Orders.{seen};
+    ghost use Rattle.hv_cond.specs.working.Stores.{IsSound};
 
-    ghost view = { λ s. diagram s.nodes };
+    ghost view = { λ s. seen s.order s.nodes };
 
-    ghost invariant = { λ s. IsSound s.nodes s.conjunctions s.disjunctions s.complements };
+    ghost invariant = { λ s. IsSound s.order s.nodes s.conjunctions s.disjunctions s.complements };
 }
 
 #[tactic(auto, unfolding(crate::specs::Diagram::IsNode, crate::specs::Diagram::holds, crate::specs::Diagram::node, crate::specs::Diagram::size))]
 impl Store {
-    /// A store of conditions over `vars` variables, with truth and falsity alone.
+    /// A store of conditions over `vars` variables, with only truth and falsity. Its branches test
+    /// the variables by number.
     pub fn new(alloc: Global, vars: u32) -> Result<Store, AllocError>
         ensures variables { IfOk result (λ store. store.variables ≡ vars) }
         ensures empty { IfOk result (λ store. size store ≡ 0) }
+        ensures order { IfOk result (λ store. store.order ≡ range_with_len 0 vars) }
     {
+        Store::ordered(alloc, vars, &[])
+    }
+
+    /// A store of conditions over `vars` variables, with only truth and falsity. Its branches test
+    /// the variables of `first` in the order in which each stands there first, and after them the
+    /// others by number. What is in `first` and no variable counts for nothing.
+    pub fn ordered(alloc: Global, vars: u32, first: &[u32]) -> Result<Store, AllocError>
+        ensures variables { IfOk result (λ store. store.variables ≡ vars) }
+        ensures empty { IfOk result (λ store. size store ≡ 0) }
+        ensures order { IfOk result (λ store. store.order ≡ order_from vars first.now) }
+    {
+        let order = Order::new(alloc, vars, first)?;
         Ok(Store {
+            order,
             nodes: Nodes::new(alloc, vars),
             conjunctions: Results::new(alloc),
             disjunctions: Results::new(alloc),
@@ -75,7 +95,7 @@ impl Store {
             (λ c. (values : List Bool) → holds self.new c values ≡ value_of values i) }
     {
         self.nodes.branch(Decision {
-            variable: i,
+            variable: self.order.position(i),
             low: Cond::FALSITY,
             high: Cond::TRUTH,
         })
@@ -141,13 +161,14 @@ impl Store {
         requires all_variables { length values.now ≡ self.now.variables }
         ensures { result ≡ holds self.now c values.now }
     {
-        paths::eval(&self.nodes, c, values)
+        paths::eval(&self.order, &self.nodes, c, values)
     }
 
     /// Whether no assignment satisfies a condition.
     pub fn is_false(&self, c: Cond) -> bool
         requires { IsNode self.now c }
-        ensures { IsTrue result ↔ IsNever self.now c }
+        ensures meaning { IsTrue result ↔ IsNever self.now c }
+        ensures falsity { IsTrue result ↔ (node self.now c ≡ Falsity) }
     {
         // Brings the invariant into the proof.
         let _ = &self.nodes;
@@ -166,23 +187,32 @@ impl Store {
         a == b
     }
 
-    /// The first assignment that satisfies a condition, in the order of the variables and false
-    /// before true, or `None` where none does.
+    /// The first assignment that satisfies a condition, by the variables' numbers and false before
+    /// true, or `None` where none does. The order of the store makes no difference.
     pub fn pick(&self, c: Cond) -> Result<Option<Vec<bool>>, AllocError>
         requires { IsNode self.now c }
         ensures none { IfOk result (λ found. IsNone found ↔ IsNever self.now c) }
         ensures least { IfOk result
             (λ found. IfSome found (λ values. IsLeast self.now c values.items)) }
     {
-        paths::pick(&self.nodes, c)
+        paths::pick(&self.order, &self.nodes, c)
     }
 
-    /// What a condition is: a terminal, or a branch on its first variable.
+    /// What a condition is: a terminal, or a branch on the variable of it that stands first in the
+    /// store's order.
     pub fn node(&self, c: Cond) -> Node
         requires { IsNode self.now c }
         ensures node { result ≡ node self.now c }
         ensures described { Describes self.now c result }
     {
-        self.nodes.node(c)
+        match self.nodes.node(c) {
+            Node::Branch { var, low, high } => Node::Branch {
+                var: self.order.variable(var),
+                low,
+                high,
+            },
+            Node::Truth => Node::Truth,
+            Node::Falsity => Node::Falsity,
+        }
     }
 }

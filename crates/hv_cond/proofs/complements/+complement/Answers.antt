@@ -1,5 +1,5 @@
 use Rattle.std.proofs.Common.{sym, ◌∙◌, arith}
-use Rattle.hv_cond.specs.Nodes.{newest_first}
+use Rattle.hv_cond.specs.working.Nodes.{newest_first}
 use Rattle.hv_cond.proofs.Branches.{branch_index}
 use Rattle.hv_cond.proofs.Tables.{Extends-level, Extends-node}
 use Rattle.hv_cond.proofs.Complementing.{GrowsBy-under, GrowsBy-then, IsUnder-low, IsUnder-high, IsUnder-refl, HalvesComplemented, complements_may_branch, complements_meaning, complement_terminal}

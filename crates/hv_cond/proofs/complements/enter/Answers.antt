@@ -1,6 +1,6 @@
 use Rattle.std.proofs.Common.{cond, Option, Some, ap, ◌∙◌}
 use Rattle.hv_cond.specs.declared.conditions.Cond.{Cond}
-use Rattle.hv_cond.specs.Complements.{same_cond}
+use Rattle.hv_cond.specs.working.Complements.{same_cond}
 use Rattle.hv_cond.proofs.Complementing.{GrowsBy-enter, complement_made}
 use Rattle.hv_cond.proofs.complements.enter.Goals as goal
 

@@ -1,5 +1,5 @@
 use Rattle.std.proofs.Common.{arith}
-use Rattle.hv_cond.specs.Nodes.{newest_first}
+use Rattle.hv_cond.specs.working.Nodes.{newest_first}
 use Rattle.hv_cond.proofs.Branches.{level-branch}
 use Rattle.hv_cond.proofs.Combining.{Grows-below, Grows-then, IsBelow-low, IsBelow-high, IsBelow-refl, HalvesAnswered, halves_may_branch, halves_meaning}
 use Rattle.hv_cond.proofs.connectives.+combine.Goals as goal

@@ -1,5 +1,5 @@
 use Rattle.std.proofs.Common.{cond, Option, Some, ap, ◌∙◌}
-use Rattle.hv_cond.specs.Results.{is_same_pair}
+use Rattle.hv_cond.specs.working.Results.{is_same_pair}
 use Rattle.hv_cond.specs.declared.conditions.Cond.{Cond}
 use Rattle.hv_cond.proofs.Combining.{Grows-enter, answer_made}
 use Rattle.hv_cond.proofs.connectives.enter.Goals as goal

@@ -1,5 +1,5 @@
 use Rattle.std.proofs.Common.{◌∙◌}
-use Rattle.hv_cond.specs.Complements.{complement_of}
+use Rattle.hv_cond.specs.working.Complements.{complement_of}
 use Rattle.hv_cond.proofs.complements.Complements.find.Goals as goal
 
 pub returns : goal.returns

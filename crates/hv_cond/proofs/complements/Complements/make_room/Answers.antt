@@ -1,4 +1,4 @@
-use Rattle.hv_cond.specs.Complements.{complement_of}
+use Rattle.hv_cond.specs.working.Complements.{complement_of}
 use Rattle.hv_cond.proofs.complements.Complements.make_room.Goals as goal
 
 pub returns-clause-same : goal.returns-clause-same

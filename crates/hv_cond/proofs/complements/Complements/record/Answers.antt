@@ -1,4 +1,4 @@
-use Rattle.hv_cond.specs.Complements.{complement_of}
+use Rattle.hv_cond.specs.working.Complements.{complement_of}
 use Rattle.hv_cond.proofs.complements.Complements.record.Goals as goal
 
 pub returns-clause-answer : goal.returns-clause-answer

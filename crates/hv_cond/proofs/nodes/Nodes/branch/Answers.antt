@@ -1,5 +1,5 @@
 use Rattle.std.proofs.Common.{sym}
-use Rattle.hv_cond.specs.Nodes.{newest_first}
+use Rattle.hv_cond.specs.working.Nodes.{newest_first}
 use Rattle.hv_cond.proofs.Branches.{placed}
 use Rattle.hv_cond.proofs.Tables.{Extends-push, meaning-push}
 use Rattle.hv_cond.proofs.nodes.Nodes.branch.Goals as goal

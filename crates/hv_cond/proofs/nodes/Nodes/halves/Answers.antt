@@ -1,5 +1,5 @@
 use Rattle.std.proofs.Common.{arith}
-use Rattle.hv_cond.specs.Nodes.{newest_first}
+use Rattle.hv_cond.specs.working.Nodes.{newest_first}
 use Rattle.hv_cond.proofs.Branches.{level-terminal}
 use Rattle.hv_cond.proofs.Tables.{IsHalves-whole}
 use Rattle.hv_cond.proofs.nodes.Nodes.halves.Goals as goal

@@ -2,7 +2,7 @@ use Rattle.std.proofs.Common.{◌≡◌, cond, Option, Some, refl, ap, ◌∙◌
 use Rattle.hv_cond.specs.declared.conditions.Cond.{Cond}
 use Rattle.hv_cond.specs.declared.nodes.Nodes.{Nodes}
 use Rattle.hv_cond.specs.Diagram.{top}
-use Rattle.hv_cond.specs.Nodes.{newest_first, same_decision}
+use Rattle.hv_cond.specs.working.Nodes.{newest_first, same_decision}
 use Rattle.std.proofs.lemmas.List.{length-reverse}
 use Rattle.hv_cond.proofs.Tables.{IsReduced-same, IsReduced-push}
 use Rattle.hv_cond.proofs.nodes.Nodes.push.Goals as goal

@@ -1,4 +1,4 @@
-use Rattle.hv_cond.specs.Results.{known, ordered_pair}
+use Rattle.hv_cond.specs.working.Results.{known, ordered_pair}
 use Rattle.hv_cond.proofs.results.Results.make_room.Goals as goal
 
 pub returns-clause-same : goal.returns-clause-same

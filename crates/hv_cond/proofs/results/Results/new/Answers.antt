@@ -1,5 +1,5 @@
 use Rattle.std.proofs.Common.{refl}
-use Rattle.hv_cond.specs.Results.{known}
+use Rattle.hv_cond.specs.working.Results.{known}
 use Rattle.hv_cond.proofs.results.Results.new.Goals as goal
 
 pub returns : goal.returns

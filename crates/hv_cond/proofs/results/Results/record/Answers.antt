@@ -1,7 +1,7 @@
 use Rattle.std.proofs.Common.{cond, Some, ap, ◌∙◌}
 use Rattle.std.specs.HashMap.{get}
 use Rattle.hv_cond.specs.declared.conditions.Cond.{Cond}
-use Rattle.hv_cond.specs.Results.{known, ordered_pair, same_pair, is_same_pair}
+use Rattle.hv_cond.specs.working.Results.{known, ordered_pair, same_pair, is_same_pair}
 use Rattle.hv_cond.proofs.results.Results.record.Goals as goal
 
 pub returns : goal.returns

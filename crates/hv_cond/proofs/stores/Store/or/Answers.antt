@@ -1,43 +1,60 @@
 use Rattle.std.proofs.Common.{◌≡◌, ◌+◌, ◌*◌, ◌≤◌, ◌||◌, Bool, List, IfOk, sym, subst}
 use Rattle.hv_cond.specs.declared.connectives.Connective.TheVariants.{And, Or}
-use Rattle.hv_cond.specs.Diagram.{Diagram, IsNode, Keeps, holds, nodes, size, node}
-use Rattle.hv_cond.specs.Nodes.{diagram}
+use Rattle.hv_cond.specs.Diagram.{Diagram, IsNode, Keeps, holds, nodes, size}
+use Rattle.hv_cond.specs.working.Orders.{seen}
 use Rattle.hv_cond.proofs.Combining.{Extends-answers}
 use Rattle.hv_cond.proofs.Complementing.{Extends-complements}
-use Rattle.hv_cond.proofs.Sound.{Keeps-from, bound_by_pairs, meaning_of_answer}
+use Rattle.hv_cond.proofs.Seen.{IsNode-in}
+use Rattle.hv_cond.proofs.Sound.{IsNode-result, Keeps-from, bound_by_pairs, meaning_of_answer, order_of_new}
 use Rattle.hv_cond.proofs.stores.Store.or.Goals as goal
 
+pub combine-requires-clause-first : goal.combine-requires-clause-first
+combine-requires-clause-first c =
+    let s = c.self.inside in
+    IsNode-in s.order s.nodes c.args.a (subst (λ (d : Diagram). IsNode d c.args.a) (sym c.self.view_is) c.requires.first)
+
+pub combine-requires-clause-second : goal.combine-requires-clause-second
+combine-requires-clause-second c =
+    let s = c.self.inside in
+    IsNode-in s.order s.nodes c.args.b (subst (λ (d : Diagram). IsNode d c.args.b) (sym c.self.view_is) c.requires.second)
+
 pub invariant_of-self : goal.invariant_of-self
-unfolding IsNode holds size node
 invariant_of-self c =
     let e = c.combine.ensures.grows.extends in
     let s = c.self.inside in
     let i = c.self.invariant in
     record {
+      ordered = order_of_new s.order e i.ordered;
       reduced = c.combine.ensures.grows.reduced;
-      conjunctions_right = Extends-answers e And s.conjunctions i.conjunctions_right;
       disjunctions_right = c.combine.ensures.grows.answers;
+      conjunctions_right = Extends-answers e And s.conjunctions i.conjunctions_right;
       complements_right = Extends-complements e s.complements i.complements_right;
     }
 
 pub returns-clause-keeps : goal.returns-clause-keeps
-unfolding IsNode holds size node
-returns-clause-keeps c = subst (λ (d : Diagram). Keeps d (diagram c.combine.new.nodes)) c.self.view_is (Keeps-from c.combine.ensures.grows.extends)
+returns-clause-keeps c =
+    let s = c.self.inside in
+    subst (λ (d : Diagram). Keeps d (seen s.order c.combine.new.nodes)) c.self.view_is
+    (Keeps-from s.order c.combine.ensures.grows.extends)
 
 pub returns-clause-bound : goal.returns-clause-bound
-unfolding IsNode holds size node
 returns-clause-bound c =
     let s = c.self.inside in
     let first = subst (λ (d : Diagram). IsNode d c.args.a) (sym c.self.view_is) c.requires.first in
     let second = subst (λ (d : Diagram). IsNode d c.args.b) (sym c.self.view_is) c.requires.second in
-    subst (λ (d : Diagram). size (diagram c.combine.new.nodes) ≤ size d + (nodes d c.args.a + 1) * (nodes d c.args.b + 1)) c.self.view_is
-    (bound_by_pairs Or s.nodes c.combine.new.nodes s.disjunctions c.combine.new.results c.args.a c.args.b c.self.invariant.reduced first second c.combine.ensures.grows)
+    subst (λ (d : Diagram). size (seen s.order c.combine.new.nodes) ≤ size d + (nodes d c.args.a + 1) * (nodes d c.args.b + 1)) c.self.view_is
+    (bound_by_pairs Or s.order s.nodes c.combine.new.nodes s.disjunctions c.combine.new.results c.args.a c.args.b c.self.invariant.reduced first second c.combine.ensures.grows)
+
+pub returns-clause-node : goal.returns-clause-node
+returns-clause-node c =
+    IsNode-result Or c.self.inside.order c.combine.new.nodes c.args.a c.args.b c.combine.result c.combine.ensures.answer
 
 pub returns-clause-meaning : goal.returns-clause-meaning
-unfolding IsNode holds size node
 returns-clause-meaning c =
     let s = c.self.inside in
+    let i = c.self.invariant in
+    let g = c.combine.ensures.grows in
     let first = subst (λ (d : Diagram). IsNode d c.args.a) (sym c.self.view_is) c.requires.first in
     let second = subst (λ (d : Diagram). IsNode d c.args.b) (sym c.self.view_is) c.requires.second in
-    subst (λ (d : Diagram). IfOk c.combine.result (λ r. (v : List Bool) → holds (diagram c.combine.new.nodes) r v ≡ (holds d c.args.a v || holds d c.args.b v))) c.self.view_is
-    (meaning_of_answer Or s.nodes c.combine.new.nodes c.args.a c.args.b c.combine.result c.combine.ensures.grows.extends first second c.combine.ensures.answer)
+    subst (λ (d : Diagram). IfOk c.combine.result (λ r. (v : List Bool) → holds (seen s.order c.combine.new.nodes) r v ≡ (holds d c.args.a v || holds d c.args.b v))) c.self.view_is
+    (meaning_of_answer Or s.order s.nodes c.combine.new.nodes c.args.a c.args.b c.combine.result i.ordered i.reduced g.reduced g.extends first second c.combine.ensures.answer)

@@ -1,19 +1,16 @@
--- What holds of the table of nodes: no branch is superfluous, none stands twice, and variables come in order.
+-- What holds of the table of nodes: no branch is superfluous, none stands twice, and variables come in order. In the table
+-- a variable is named by its position in the store's order, so here the order is that of the numbers.
 use Rattle.std.specs.Prelude.{◌≡◌, ◌≢◌, ◌==◌, ◌<◌, ◌≤◌, ℕ, Bool, ◌&&◌, ◌⊎◌, if◌then◌else◌, List, [], ◌∷◌, ◌++◌, reverse, Option, Some, None}
 use Rattle.std.specs.HashMap.{get}
 use Rattle.hv_cond.specs.declared.conditions.Cond.{Cond}
 use Rattle.hv_cond.specs.declared.nodes.Decision.{Decision}
 use Rattle.hv_cond.specs.declared.nodes.Nodes.{Nodes}
 use Rattle.hv_cond.specs.declared.conditions.Node.TheVariants.{Branch}
-use Rattle.hv_cond.specs.Diagram.{Diagram, top, value_of, node_in, holds_in}
+use Rattle.hv_cond.specs.Diagram.{top, value_of, node_in, holds_in}
 
 -- the branches of the table, the newest first
 abbrev pub newest_first : Nodes → List Decision
 newest_first nodes = reverse nodes.decisions.items
-
--- the table as contracts see it
-abbrev pub diagram : Nodes → Diagram
-diagram nodes = record { variables = nodes.variables; decisions = newest_first nodes }
 
 -- what a branch means: `high` where its variable is true, and `low` where it is not
 abbrev pub choice : List Decision → Decision → List Bool → Bool

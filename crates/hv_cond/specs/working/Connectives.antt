@@ -7,8 +7,8 @@ use Rattle.hv_cond.specs.declared.nodes.Decision.{Decision}
 use Rattle.hv_cond.specs.declared.nodes.Nodes.{Nodes}
 use Rattle.hv_cond.specs.declared.results.Results.{Results}
 use Rattle.hv_cond.specs.Diagram.{top, holds_in}
-use Rattle.hv_cond.specs.Nodes.{newest_first, Extends, IsClosed, IsReduced, Within}
-use Rattle.hv_cond.specs.Results.{known}
+use Rattle.hv_cond.specs.working.Nodes.{newest_first, Extends, IsClosed, IsReduced, Within}
+use Rattle.hv_cond.specs.working.Results.{known}
 
 -- what a connective means
 abbrev pub apply : Connective → Bool → Bool → Bool

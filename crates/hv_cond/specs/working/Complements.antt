@@ -5,9 +5,9 @@ use Rattle.hv_cond.specs.declared.complements.Complements.{Complements}
 use Rattle.hv_cond.specs.declared.conditions.Cond.{Cond}
 use Rattle.hv_cond.specs.declared.nodes.Decision.{Decision}
 use Rattle.hv_cond.specs.declared.nodes.Nodes.{Nodes}
-use Rattle.hv_cond.specs.Connectives.{open_among}
+use Rattle.hv_cond.specs.working.Connectives.{open_among}
 use Rattle.hv_cond.specs.Diagram.{top, holds_in}
-use Rattle.hv_cond.specs.Nodes.{level, newest_first, Extends, IsClosed, IsReduced, Within}
+use Rattle.hv_cond.specs.working.Nodes.{level, newest_first, Extends, IsClosed, IsReduced, Within}
 
 -- whether two conditions are the same
 abbrev pub same_cond : Cond → Cond → Bool
