@@ -7,14 +7,17 @@ mod code;
 mod conds;
 mod configs;
 mod faults;
+mod force;
 mod lines;
 mod model;
 mod name;
 mod names;
+mod order;
 mod parser;
 mod rules;
 mod scan;
 mod stack;
+mod walk;
 
 pub use bytes::is_blank;
 pub use configs::{print_config, read_config};
