@@ -1,8 +1,9 @@
 -- Lines and words, taken off the front of a text one by one.
 use Rattle.std.proofs.Common.{◌≡◌, ℕ, ◌+◌, ◌<◌, ◌≤◌, List, [], ◌∷◌, refl, ◌∙◌, ap, arith, length, take, drop}
 use Rattle.std.specs.List.{slice_split, position_or_len}
-use Rattle.hv_model.specs.Bytes.{is_newline, counted_lines, without_return}
-use Rattle.hv_model.proofs.ListLemmas.{slice_split_front, slice_split_whole, slice_split-some}
+use Rattle.hv_base.specs.Ascii.{is_newline}
+use Rattle.hv_model.specs.Bytes.{counted_lines, without_return}
+use Rattle.hv_base.proofs.Lists.{slice_split_front, slice_split_whole, slice_split-some}
 
 counted_lines-cons : (line : List ℕ) (parts : List (List ℕ)) → 0 < length parts → counted_lines (line ∷ parts) ≡ without_return line ∷ counted_lines parts
 counted_lines-cons line [] h = absurd (omega arith)

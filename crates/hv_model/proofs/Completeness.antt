@@ -2,10 +2,10 @@
 use Rattle.std.proofs.Common.{◌≡◌, ℕ, suc, ◌+◌, Bool, true, false, cond, List, [], ◌∷◌, ◌++◌, refl, sym, ap, ◌∙◌, append_assoc, add-one, Some}
 use Rattle.std.proofs.lemmas.List.{append-nil}
 use Rattle.hv_model.specs.Grammar.{Phrase, expr, or, and, not, Derives, expr_or, expr_implies, or_and, or_either, and_not, and_both, not_negate, not_parens, not_name, place_of}
-use Rattle.hv_model.specs.Machine.{frame, want, have, start, negated_times, completed, run}
+use Rattle.hv_model.specs.working.Machine.{frame, want, have, start, negated_times, completed, run}
 use Rattle.hv_model.specs.Name.{is_name}
 use Rattle.hv_model.specs.Rule.{Rule, option, disjunction, implication}
-use Rattle.hv_model.specs.Steps.{Item, value, premises, conjoined}
+use Rattle.hv_model.specs.working.Steps.{Item, value, premises, conjoined}
 use Rattle.hv_model.specs.Token.{Token, implies, either, both, negate, open_, close, word, other}
 use Rattle.hv_model.specs.declared.parser.Frame.{Frame}
 

@@ -10,9 +10,11 @@ use Rattle.std.proofs.lemmas.List.{take_all}
 use Rattle.std.proofs.lemmas.List.Elements.{All-cons}
 use Rattle.std.proofs.lemmas.List.Splits.{slice_split_at, slice_split_none}
 use Rattle.std.proofs.lemmas.Slice.Eq.{bytes_eq-Decides}
-use Rattle.hv_model.specs.Config.{ConfigReading, config, repeated, config_from, config_of, is_comma, names_on, pieces_of, rest_len, text_of, IsConfigFault}
+use Rattle.hv_model.specs.Config.{ConfigReading, config, repeated, config_from, config_of, is_comma, names_on, pieces_of, text_of, IsConfigFault}
+use Rattle.hv_model.specs.working.Pieces.{rest_len}
 use Rattle.hv_model.specs.declared.faults.ConfigFault.{ConfigFault}
-use Rattle.hv_model.specs.Name.{is_letter, is_digit, is_name, AllOptionNames, are_distinct}
+use Rattle.hv_base.specs.Ascii.{is_nondigit, is_identifier_byte}
+use Rattle.hv_model.specs.Name.{is_name, AllOptionNames, are_distinct}
 
 abbrev pub is_none : List (List ℕ) → Bool
 is_none [] = true
@@ -180,26 +182,26 @@ read_back_from done (name ∷ names) before (true ∷ on) n b o d =
         ≡ cond (get_or (before ++ false ∷ all_off names) (length done) false) (repeated n) (config_from (done ++ name ∷ names) (set (before ++ false ∷ all_off names) (length done) true) (n + 1) (names_on names on))
     taken_at e = rw (e, config_from) refl
 
-letter_no_comma : (byte : ℕ) → is_letter byte ≡ true → is_comma byte ≡ false
+letter_no_comma : (byte : ℕ) → is_nondigit byte ≡ true → is_comma byte ≡ false
 letter_no_comma byte e = grind (arith, nat_tests)
 
-name_byte_no_comma : (byte : ℕ) → (is_letter byte || is_digit byte) ≡ true → is_comma byte ≡ false
+name_byte_no_comma : (byte : ℕ) → is_identifier_byte byte ≡ true → is_comma byte ≡ false
 name_byte_no_comma byte e = grind (arith, nat_tests)
 
-name_bytes_no_comma : (bytes : List ℕ) → list_all (λ byte. is_letter byte || is_digit byte) bytes ≡ true → All (λ byte. is_comma byte ≡ false) bytes
+name_bytes_no_comma : (bytes : List ℕ) → list_all is_identifier_byte bytes ≡ true → All (λ byte. is_comma byte ≡ false) bytes
 name_bytes_no_comma [] e = λ k d h. absurd (omega arith)
 name_bytes_no_comma (byte ∷ bytes) e =
     All-cons (λ b. is_comma b ≡ false) byte bytes
-    (name_byte_no_comma byte (and_left _ (list_all (λ b. is_letter b || is_digit b) bytes) e))
-    (name_bytes_no_comma bytes (and_right (is_letter byte || is_digit byte) _ e))
+    (name_byte_no_comma byte (and_left _ (list_all is_identifier_byte bytes) e))
+    (name_bytes_no_comma bytes (and_right (is_identifier_byte byte) _ e))
 
 name_no_comma : (name : List ℕ) → is_name name ≡ true → (0 < length name) × All (λ byte. is_comma byte ≡ false) name
 name_no_comma [] e = cc
 name_no_comma (byte ∷ bytes) e = (
   omega arith,
   All-cons (λ b. is_comma b ≡ false) byte bytes
-      (letter_no_comma byte (and_left _ (list_all (λ b. is_letter b || is_digit b) bytes) e))
-      (name_bytes_no_comma bytes (and_right (is_letter byte) _ e)),
+      (letter_no_comma byte (and_left _ (list_all is_identifier_byte bytes) e))
+      (name_bytes_no_comma bytes (and_right (is_nondigit byte) _ e)),
 )
 
 -- texts that are not empty and have no comma

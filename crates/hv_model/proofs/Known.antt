@@ -4,11 +4,11 @@ use Rattle.std.specs.Prelude.{nat_lt}
 use Rattle.std.specs.List.{list_all}
 use Rattle.std.proofs.lemmas.List.Folds.{list_all-append}
 use Rattle.hv_model.specs.Grammar.{Phrase, Derives, expr_or, expr_implies, or_and, or_either, and_not, and_both, not_negate, not_parens, not_name, place_of}
-use Rattle.hv_model.specs.Known.{is_known}
-use Rattle.hv_model.specs.Machine.{Machine, frame, want, negated_times, completed, step, or_done, expr_done, limited_step, is_allowed}
+use Rattle.hv_model.specs.working.Known.{is_known}
+use Rattle.hv_model.specs.working.Machine.{Machine, frame, want, negated_times, completed, step, or_done, expr_done, limited_step, is_allowed}
 use Rattle.hv_model.specs.Name.{is_name}
 use Rattle.hv_model.specs.Rule.{Rule, option, implication, is_about}
-use Rattle.hv_model.specs.Steps.{Item, value, premises, all_of, rule_in, concluded, conjoined, disjoined, negated, supposed, supposed_too, closed, after, items_of, fits}
+use Rattle.hv_model.specs.working.Steps.{Item, value, premises, all_of, rule_in, concluded, conjoined, disjoined, negated, supposed, supposed_too, closed, after, items_of, fits}
 use Rattle.hv_model.specs.Token.{Token, implies, either, both, negate, open_, close, word, other}
 use Rattle.hv_model.specs.declared.code.Step.{Step}
 use Rattle.hv_model.specs.declared.code.Step.TheVariants.{Option, Not, And, Or, Suppose, SupposeToo, Conclude}

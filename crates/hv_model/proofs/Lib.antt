@@ -4,7 +4,6 @@ pub mod ConfigLemmas
 pub mod Completeness
 pub mod Known
 pub mod Limits
-pub mod ListLemmas
 pub mod NameLemmas
 pub mod OneReading
 pub mod ReadModel

@@ -3,10 +3,10 @@ use Rattle.std.proofs.Common.{◌≡◌, ℕ, zero, suc, ◌+◌, ◌-◌, ◌*�
 use Rattle.std.specs.Prelude.{nat_lt, option_and_then}
 use Rattle.std.proofs.lemmas.Bool.Decides.{nat_tests}
 use Rattle.hv_model.specs.Grammar.{IsRule, is_shallow, place_of}
-use Rattle.hv_model.specs.Machine.{Machine, frame, want, have, start, negated_times, completed, run, or_done, expr_done, limited_step, limited_run}
+use Rattle.hv_model.specs.working.Machine.{Machine, frame, want, have, start, negated_times, completed, run, or_done, expr_done, limited_step, limited_run}
 use Rattle.hv_model.specs.Name.{is_name}
 use Rattle.hv_model.specs.Rule.{Rule, option}
-use Rattle.hv_model.specs.Steps.{Item, value, conjoined, disjoined, negated, supposed, supposed_too, closed}
+use Rattle.hv_model.specs.working.Steps.{Item, value, conjoined, disjoined, negated, supposed, supposed_too, closed}
 use Rattle.hv_model.specs.Token.{Token, implies, either, both, negate, open_, close, word, other}
 use Rattle.hv_model.specs.declared.parser.Frame.{Frame}
 use Rattle.hv_model.proofs.Completeness.{run_derived}

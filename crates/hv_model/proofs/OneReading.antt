@@ -4,7 +4,7 @@ use Rattle.std.specs.Prelude.{Some}
 use Rattle.std.specs.List.{list_any}
 use Rattle.std.specs.Str.{bytes_eq}
 use Rattle.hv_model.specs.Grammar.{IsRule}
-use Rattle.hv_model.specs.Lines.{Line, nothing, option_line, rule_line, bad_line, Reading, model, fault, Reads, ends, no_configuration, says_nothing, bad, option, repeated, too_many, rule, unknown, no_rule, line_of, SaysOne}
+use Rattle.hv_model.specs.Lines.{ModelLine, nothing, option_line, rule_line, bad_line, Reading, model, fault, Reads, ends, no_configuration, says_nothing, bad, option, repeated, too_many, rule, unknown, no_rule, line_of, SaysOne}
 use Rattle.hv_model.specs.Rule.{Features, Rule, IsValid, is_about}
 use Rattle.hv_model.specs.Token.{Token}
 use Rattle.hv_model.specs.declared.faults.ModelKind.TheVariants.{BadLine, Repeated, Unknown, TooMany, NoConfiguration}
@@ -17,7 +17,7 @@ IsRule-unique names ts r s a b = let e = run-from_IsRule names ts r a in let f =
     one : Some r ≡ Some s → r ≡ s
     one e = cc
 
-same_line : {a b c : Line} → a ≡ b → a ≡ c → b ≡ c
+same_line : {a b c : ModelLine} → a ≡ b → a ≡ c → b ≡ c
 same_line e f = sym e ∙ f
 
 same_rule : {a b : List Token} → rule_line a ≡ rule_line b → a ≡ b

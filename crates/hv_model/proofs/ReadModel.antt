@@ -5,13 +5,17 @@ use Rattle.std.specs.List.{list_all, list_any}
 use Rattle.std.specs.Str.{bytes_eq}
 use Rattle.std.proofs.lemmas.Bool.Decides.{nat_tests}
 use Rattle.std.proofs.lemmas.List.{map-append}
-use Rattle.hv_cond.specs.Diagram.{Diagram, IsLeast, holds}
+use Rattle.hv_base.proofs.Booleans.{contrary}
+use Rattle.hv_cond.specs.Diagram.{Diagram, IsLeast, IsNever, holds}
 use Rattle.hv_cond.specs.declared.conditions.Cond.{Cond}
-use Rattle.hv_model.specs.Lines.{Reading, model, fault, Reads, ends, no_configuration, says_nothing, bad, option, repeated, too_many, rule, unknown, no_rule, line_of, option_line, rule_line}
+use Rattle.hv_model.specs.Lines.{Reading, model, fault, Reads, Says, ends, no_configuration, says_nothing, bad, option, repeated, too_many, rule, unknown, no_rule, line_of, option_line, rule_line}
 use Rattle.hv_model.specs.Grammar.{IsRule}
-use Rattle.hv_model.specs.Model.{AllFit, IsRefusalIn}
+use Rattle.hv_model.specs.Model.{IsRefusalIn}
+use Rattle.hv_model.specs.Valid.{IsValidIn}
+use Rattle.hv_model.specs.working.ModelLine.{IsRead}
+use Rattle.hv_model.specs.working.Steps.{AllFit}
 use Rattle.hv_model.specs.Rule.{Features, Rule, IsLeastValid, IsValid, is_about, meets_all}
-use Rattle.hv_model.specs.Steps.{fits, rule_of}
+use Rattle.hv_model.specs.working.Steps.{fits, rule_of}
 use Rattle.hv_model.specs.Token.{Token}
 use Rattle.hv_model.specs.declared.code.Step.{Step}
 use Rattle.hv_model.specs.declared.code.Step.TheVariants.{Option as OptionStep, Not, And, Or, Suppose, SupposeToo, Conclude}
@@ -80,13 +84,11 @@ rule_added names codes now code n line ts more o e about l r h =
     (subst (λ rs. Reads (record { names = names; rules = rs }) (n + 1) more o) (ap (map rule_of) e ∙ map-append rule_of codes (code ∷ [])) h)
 
 -- the first assignment that satisfies the condition of the valid configurations is the least of these
-pub least_picked : {X : Type 0} (items : X → List Bool) (m : Features) (d : Diagram) (c : Cond) (found : Option X) (v : X) → found ≡ Some v → IfSome found (λ v. IsLeast d c (items v))
-    → d.variables ≡ length m.names → ((values : List Bool) → holds d c values ≡ meets_all values m.rules) → IsLeastValid m (items v)
-least_picked items m d c found v is least n e =
-    let picked : IsLeast d c (items v) = subst (λ f. IfSome f (λ v. IsLeast d c (items v))) is least in
+pub least_picked : (m : Features) (d : Diagram) (c : Cond) (values : List Bool) → IsValidIn m d c → IsLeast d c values → IsLeastValid m values
+least_picked m d c values v picked =
     record {
-      valid = (picked.all_variables ∙ n, sym (e (items v)) ∙ picked.satisfies);
-      first = λ others valid. picked.first others (valid.0 ∙ sym n) (e others ∙ valid.1);
+      valid = (picked.all_variables ∙ v.variables, sym (v.meaning values) ∙ picked.satisfies);
+      first = λ others valid. picked.first others (valid.0 ∙ sym v.variables) (v.meaning others ∙ valid.1);
     }
 
 -- a file that says a model says one with a valid configuration
@@ -105,8 +107,15 @@ reads_valid {m} {f} {n} {lines} {o} e (rule {ts = ts} {r = r} x said about d) = 
 reads_valid {m} {f} {n} {lines} {o} e (unknown {ts = ts} {r = r} x said about) = cc
 reads_valid {m} {f} {n} {lines} {o} e (no_rule {ts = ts} x none) = cc
 
-pub reads_end : (m : Features) (n : ℕ) (lines : List (List ℕ)) → lines ≡ [] → ((values : List Bool) × IsValid m values) → Reads m n lines (model m)
-reads_end m n lines e h = rw e (ends h.0 h.1)
+-- lines that made a model with a valid configuration are a file that says it
+pub read_some : (bytes : List ℕ) (m : Features) → IsRead bytes m → (values : List Bool) → IsValid m values → Says bytes (model m)
+read_some bytes m h values valid = h (model m) (λ n. ends values valid)
 
-pub reads_none : (m : Features) (n : ℕ) (lines : List (List ℕ)) → lines ≡ [] → ((values : List Bool) → IsValid m values → ⊥) → Reads m n lines (fault 0 NoConfiguration)
-reads_none m n lines e h = rw e (no_configuration h)
+-- lines that made a model without one are a file without a configuration
+pub read_none : (bytes : List ℕ) (m : Features) → IsRead bytes m → ((values : List Bool) → IsValid m values → ⊥)
+    → Says bytes (fault 0 NoConfiguration)
+read_none bytes m h none = h (fault 0 NoConfiguration) (λ n. no_configuration none)
+
+-- where the diagram's node never holds, no configuration is valid
+pub never_valid : (m : Features) (d : Diagram) (c : Cond) → IsValidIn m d c → IsNever d c → (values : List Bool) → IsValid m values → ⊥
+never_valid m d c v never values valid = contrary (holds d c values) (v.meaning values ∙ valid.1) (never values (valid.0 ∙ sym v.variables))

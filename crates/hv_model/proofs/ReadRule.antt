@@ -3,11 +3,11 @@ use Rattle.std.proofs.Common.{◌≡◌, ℕ, Bool, true, false, ◌&&◌, List,
 use Rattle.std.specs.Prelude.{option_and_then, IfSome, IfNone, IfOk, Result, Ok, Err}
 use Rattle.std.specs.List.{list_all}
 use Rattle.hv_model.specs.Grammar.{IsRule}
-use Rattle.hv_model.specs.Known.{is_known}
-use Rattle.hv_model.specs.Machine.{Machine, IsSaid, IsTaken, limited_step, limited_run, start, finished, expr_done}
-use Rattle.hv_model.specs.Parsed.{machine_of}
+use Rattle.hv_model.specs.working.Known.{is_known}
+use Rattle.hv_model.specs.working.Machine.{Machine, IsSaid, IsTaken, limited_step, limited_run, start, finished, expr_done}
+use Rattle.hv_model.specs.working.Parsed.{machine_of}
 use Rattle.hv_model.specs.Rule.{Rule, is_about}
-use Rattle.hv_model.specs.Steps.{items_of, rule_of, fits}
+use Rattle.hv_model.specs.working.Steps.{items_of, rule_of, fits}
 use Rattle.hv_model.specs.Token.{Token, tokens}
 use Rattle.hv_model.specs.declared.code.Step.{Step}
 use Rattle.hv_model.specs.declared.parser.Parser.{Parser}

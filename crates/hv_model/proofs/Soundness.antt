@@ -3,10 +3,10 @@ use Rattle.std.proofs.Common.{◌≡◌, ℕ, suc, ◌+◌, Bool, true, false, c
 use Rattle.std.proofs.lemmas.List.{append-nil}
 use Rattle.std.specs.Prelude.{option_and_then}
 use Rattle.hv_model.specs.Grammar.{Phrase, expr, or, and, not, Derives, expr_or, expr_implies, or_and, or_either, and_not, and_both, not_negate, not_parens, not_name, place_of}
-use Rattle.hv_model.specs.Machine.{Machine, frame, want, have, start, negated_times, completed, run, after_close, finished_at}
+use Rattle.hv_model.specs.working.Machine.{Machine, frame, want, have, start, negated_times, completed, run, after_close, finished_at}
 use Rattle.hv_model.specs.Name.{is_name}
 use Rattle.hv_model.specs.Rule.{Rule, option, conjunction, disjunction, implication}
-use Rattle.hv_model.specs.Steps.{Item, value, premises, conjoined, closed, concluded, supposed, supposed_too}
+use Rattle.hv_model.specs.working.Steps.{Item, value, premises, conjoined, closed, concluded, supposed, supposed_too}
 use Rattle.hv_model.specs.Token.{Token, implies, either, both, negate, open_, close, word, other}
 use Rattle.hv_model.specs.declared.parser.Frame.{Frame}
 use Rattle.hv_model.proofs.Completeness.{negated_more}

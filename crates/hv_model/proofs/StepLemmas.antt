@@ -2,11 +2,11 @@
 use Rattle.std.proofs.Common.{◌≡◌, ℕ, zero, suc, ◌+◌, ◌<◌, ◌≤◌, Bool, true, false, ◌&&◌, ◌||◌, not, List, [], ◌∷◌, ◌++◌, refl, sym, ◌∙◌, ap, arith, length, take, get_or, map, add-one, inl, inr, length-append}
 use Rattle.std.proofs.lemmas.Bool.{cases_lt}
 use Rattle.std.proofs.lemmas.List.{take_more, take_all, take-append-le}
-use Rattle.hv_model.proofs.ListLemmas.{length-map}
+use Rattle.hv_base.proofs.Lists.{length-map}
 use Rattle.std.proofs.lemmas.List.Sums.{fold-append}
 use Rattle.hv_model.specs.Rule.{Rule, implication, meets}
-use Rattle.hv_model.specs.Steps.{Item, value, premises, all_of, rule_in, concluded, after, items_of, rule_on, rule_of, values_after, top_of, IsLow, IsOperator, negated}
-use Rattle.hv_model.specs.Machine.{negated_times}
+use Rattle.hv_model.specs.working.Steps.{Item, value, premises, all_of, rule_in, concluded, after, items_of, rule_on, rule_of, values_after, top_of, IsLow, IsOperator, negated}
+use Rattle.hv_model.specs.working.Machine.{negated_times}
 use Rattle.hv_model.specs.declared.code.Step.{Step}
 use Rattle.hv_model.specs.declared.code.Step.TheVariants.{Option, Not, And, Or, Suppose, SupposeToo, Conclude}
 

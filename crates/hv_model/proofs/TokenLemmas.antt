@@ -2,8 +2,9 @@
 use Rattle.std.proofs.Common.{◌≡◌, ℕ, suc, ◌+◌, ◌<◌, true, false, List, [], ◌∷◌, cond, refl, sym, ◌∙◌, ap, subst, arith, length, take, drop, get_or, Some, None}
 use Rattle.std.specs.List.{prefix_len}
 use Rattle.std.proofs.lemmas.Bool.Decides.{nat_tests}
-use Rattle.hv_model.specs.Bytes.{is_blank, without_front_blanks}
-use Rattle.hv_model.specs.Token.{Token, word, tokens, lengthened, single, pair_of, is_word_byte}
+use Rattle.hv_base.specs.Ascii.{is_blank, is_identifier_byte}
+use Rattle.hv_model.specs.Bytes.{without_front_blanks}
+use Rattle.hv_model.specs.Token.{Token, word, tokens, lengthened, single, pair_of}
 
 tokens-blank : (byte : ℕ) (text : List ℕ) → is_blank byte ≡ true → tokens (byte ∷ text) ≡ tokens text
 tokens-blank byte [] e = rw e refl
@@ -45,32 +46,32 @@ no_blank_first (byte ∷ text) some e =
       | false ↦ λ h. refl
     ] e
 
-word_no_blank : (byte : ℕ) → is_word_byte byte ≡ true → is_blank byte ≡ false
+word_no_blank : (byte : ℕ) → is_identifier_byte byte ≡ true → is_blank byte ≡ false
 word_no_blank byte e = grind (arith, nat_tests)
 
-tokens-word : (byte : ℕ) (text : List ℕ) → is_word_byte byte ≡ true → tokens (byte ∷ text) ≡ word (take (1 + prefix_len is_word_byte text) (byte ∷ text)) ∷ tokens (drop (1 + prefix_len is_word_byte text) (byte ∷ text))
+tokens-word : (byte : ℕ) (text : List ℕ) → is_identifier_byte byte ≡ true → tokens (byte ∷ text) ≡ word (take (1 + prefix_len is_identifier_byte text) (byte ∷ text)) ∷ tokens (drop (1 + prefix_len is_identifier_byte text) (byte ∷ text))
 tokens-word byte [] e = let b : is_blank byte ≡ false = word_no_blank byte e in rw (b, e) refl
 tokens-word byte (next ∷ text) e =
     let b : is_blank byte ≡ false = word_no_blank byte e in
-    elim (is_word_byte next) as (λ w. is_word_byte next ≡ w → tokens (byte ∷ next ∷ text) ≡ word (take (1 + cond w (1 + prefix_len is_word_byte text) 0) (byte ∷ next ∷ text)) ∷ tokens (drop (1 + cond w (1 + prefix_len is_word_byte text) 0) (byte ∷ next ∷ text))) [
-      | true ↦ λ w. rw (b, e, w) (ap (lengthened byte) (tokens-word next text w) ∙ rw (take-1+ (1 + prefix_len is_word_byte text) byte (next ∷ text), drop-1+ (1 + prefix_len is_word_byte text) byte (next ∷ text)) refl)
+    elim (is_identifier_byte next) as (λ w. is_identifier_byte next ≡ w → tokens (byte ∷ next ∷ text) ≡ word (take (1 + cond w (1 + prefix_len is_identifier_byte text) 0) (byte ∷ next ∷ text)) ∷ tokens (drop (1 + cond w (1 + prefix_len is_identifier_byte text) 0) (byte ∷ next ∷ text))) [
+      | true ↦ λ w. rw (b, e, w) (ap (lengthened byte) (tokens-word next text w) ∙ rw (take-1+ (1 + prefix_len is_identifier_byte text) byte (next ∷ text), drop-1+ (1 + prefix_len is_identifier_byte text) byte (next ∷ text)) refl)
       | false ↦ λ w. rw (b, e, w) refl
     ] refl
 
-pub tokens_word : (text : List ℕ) (n : ℕ) → n ≡ prefix_len is_word_byte text → 0 < length text → is_word_byte (get_or text 0 0) ≡ true → tokens text ≡ word (take n text) ∷ tokens (drop n text)
+pub tokens_word : (text : List ℕ) (n : ℕ) → n ≡ prefix_len is_identifier_byte text → 0 < length text → is_identifier_byte (get_or text 0 0) ≡ true → tokens text ≡ word (take n text) ∷ tokens (drop n text)
 tokens_word [] n e some w = absurd (omega arith)
-tokens_word (byte ∷ text) n e some w = rw e (subst (λ k. tokens (byte ∷ text) ≡ word (take (cond k (1 + prefix_len is_word_byte text) 0) (byte ∷ text)) ∷ tokens (drop (cond k (1 + prefix_len is_word_byte text) 0) (byte ∷ text))) (sym w) (tokens-word byte text w))
+tokens_word (byte ∷ text) n e some w = rw e (subst (λ k. tokens (byte ∷ text) ≡ word (take (cond k (1 + prefix_len is_identifier_byte text) 0) (byte ∷ text)) ∷ tokens (drop (cond k (1 + prefix_len is_identifier_byte text) 0) (byte ∷ text))) (sym w) (tokens-word byte text w))
 
-pub some_word : (text : List ℕ) (n : ℕ) → n ≡ prefix_len is_word_byte text → 0 < length text → is_word_byte (get_or text 0 0) ≡ true → 0 < n
+pub some_word : (text : List ℕ) (n : ℕ) → n ≡ prefix_len is_identifier_byte text → 0 < length text → is_identifier_byte (get_or text 0 0) ≡ true → 0 < n
 some_word [] n e some w = absurd (omega arith)
 some_word (byte ∷ text) n e some w = rw (e, w) (omega arith)
 
-pub tokens_pair : (text : List ℕ) (t : Token) → 1 < length text → is_blank (get_or text 0 0) ≡ false → is_word_byte (get_or text 0 0) ≡ false → pair_of (get_or text 0 0) (get_or text 1 0) ≡ Some t → tokens text ≡ t ∷ tokens (drop 2 text)
+pub tokens_pair : (text : List ℕ) (t : Token) → 1 < length text → is_blank (get_or text 0 0) ≡ false → is_identifier_byte (get_or text 0 0) ≡ false → pair_of (get_or text 0 0) (get_or text 1 0) ≡ Some t → tokens text ≡ t ∷ tokens (drop 2 text)
 tokens_pair [] t some b w p = absurd (omega arith)
 tokens_pair (byte ∷ []) t some b w p = absurd (omega arith)
 tokens_pair (byte ∷ next ∷ text) t some b w p = rw (b, w, p) refl
 
-pub tokens_single : (text : List ℕ) → 0 < length text → is_blank (get_or text 0 0) ≡ false → is_word_byte (get_or text 0 0) ≡ false → (1 < length text → pair_of (get_or text 0 0) (get_or text 1 0) ≡ None) → tokens text ≡ single (get_or text 0 0) ∷ tokens (drop 1 text)
+pub tokens_single : (text : List ℕ) → 0 < length text → is_blank (get_or text 0 0) ≡ false → is_identifier_byte (get_or text 0 0) ≡ false → (1 < length text → pair_of (get_or text 0 0) (get_or text 1 0) ≡ None) → tokens text ≡ single (get_or text 0 0) ∷ tokens (drop 1 text)
 tokens_single [] some b w p = absurd (omega arith)
 tokens_single (byte ∷ []) some b w p = rw (b, w) refl
 tokens_single (byte ∷ next ∷ text) some b w p = let q : pair_of byte next ≡ None = p (omega arith) in rw (b, w, q) refl

@@ -8,9 +8,11 @@ use Rattle.hv_cond.specs.Diagram.{value_of}
 abbrev pub option_file : ℕ
 option_file = 4294967295
 
+-- the file of the predefined macros
 abbrev pub predefined_file : ℕ
 predefined_file = 4294967294
 
+-- the place at this offset of a file, which no `#include` led to
 abbrev pub place_in : ℕ → ℕ → Place
 place_in file offset = record { stack = []; file = file; offset = offset }
 
@@ -19,6 +21,7 @@ abbrev pub options_from : ℕ → List (List ℕ) → List Bool → List (List �
 options_from i [] values = []
 options_from i (name ∷ names) values = (if value_of values i then (name, codes "1", place_in option_file i) ∷ [] else []) ++ options_from (i + 1) names values
 
+-- the predefined macros that Hercules has (6.10.8)
 abbrev pub predefined : List (List ℕ × List ℕ × Place)
 predefined =
     (codes "__STDC__", codes "1", place_in predefined_file 0)

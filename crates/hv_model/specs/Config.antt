@@ -1,13 +1,14 @@
 -- The text of a configuration.
-use Rattle.std.specs.Prelude.{ℕ, ◌≡◌, Bool, true, false, cond, ◌+◌, ◌==◌, List, [], ◌∷◌, map, Option, Some, None, slice_set, position, length}
+use Rattle.std.specs.Prelude.{ℕ, ◌≡◌, Bool, true, false, cond, ◌+◌, ◌==◌, List, [], ◌∷◌, map, Some, None, slice_set, position}
 use Rattle.std.specs.List.{slice_split, slice_index_or, join_with_byte}
 use Rattle.std.specs.Str.{bytes_eq}
-use Rattle.std.specs.Borrow.{Bor}
+use Rattle.hv_base.specs.Ascii.{comma}
 use Rattle.hv_model.specs.declared.faults.ConfigFault.{ConfigFault}
 use Rattle.hv_model.specs.declared.faults.ConfigFault.TheVariants.{Unknown, Repeated, Memory}
 
+-- what sets two pieces apart
 abbrev pub is_comma : ℕ → Bool
-is_comma byte = byte == 44
+is_comma byte = byte == comma
 
 -- the pieces that commas set apart; the empty text has none
 abbrev pub pieces_of : List ℕ → List (List ℕ)
@@ -28,10 +29,11 @@ config_from names on n (piece ∷ more) = elim (position (bytes_eq piece) names)
   | Some i ↦ cond (slice_index_or on i false) (repeated n) (config_from names (slice_set on i true) (n + 1) more)
 ]
 
+-- what a text is, where the options have these names
 abbrev pub config_of : List (List ℕ) → List ℕ → ConfigReading
 config_of names text = config_from names (map (λ _. false) names) 0 (pieces_of text)
 
--- the fault is that of the text; want of memory says nothing
+-- the fault is that of the text; out of memory says nothing
 abbrev pub IsConfigFault : ConfigReading → ConfigFault → Type 0
 IsConfigFault reading (Unknown piece) = reading ≡ unknown piece
 IsConfigFault reading (Repeated piece) = reading ≡ repeated piece
@@ -43,15 +45,6 @@ names_on [] on = []
 names_on (name ∷ names) [] = []
 names_on (name ∷ names) (value ∷ on) = cond value (name ∷ names_on names on) (names_on names on)
 
+-- the names of the options that are on, joined by commas
 abbrev pub text_of : List (List ℕ) → List Bool → List ℕ
-text_of names on = join_with_byte 44 (names_on names on)
-
--- the pieces that are left
-abbrev pub pieces_in : Option (Bor (List ℕ)) → List (List ℕ)
-pieces_in None = []
-pieces_in (Some text) = slice_split is_comma text.now
-
--- how many bytes are left, and one more for the piece that they begin
-abbrev pub rest_len : Option (Bor (List ℕ)) → ℕ
-rest_len None = 0
-rest_len (Some text) = length text.now + 1
+text_of names on = join_with_byte comma (names_on names on)

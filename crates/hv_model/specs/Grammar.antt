@@ -38,7 +38,7 @@ pub data Derives (names : List (List ℕ)) : Phrase → List Token → Rule → 
   -- NOT := NAME
   not_name : (name : List ℕ) → IsTrue (is_name name) → Derives names not (word name ∷ []) (option (place_of names name))
 
--- whether no more than 256 parentheses are open at once and no more than 256 `!` stand in a row, behind tokens that left so many
+-- whether no more than 256 parentheses are open at once and no more than 256 `!` stand in a row, after tokens that left so many
 abbrev pub is_shallow : ℕ → ℕ → List Token → Bool
 is_shallow opens negations [] = true
 is_shallow opens negations (open_ ∷ tokens) = nat_lt opens 256 && is_shallow (opens + 1) 0 tokens
@@ -46,7 +46,7 @@ is_shallow opens negations (close ∷ tokens) = is_shallow (opens - 1) 0 tokens
 is_shallow opens negations (negate ∷ tokens) = nat_lt negations 256 && is_shallow opens (negations + 1) tokens
 is_shallow opens negations (_ ∷ tokens) = is_shallow opens 0 tokens
 
--- the tokens behind `rule`, where the options have these names, say this rule
+-- the tokens after `rule`, where the options have these names, say this rule
 pub record IsRule (names : List (List ℕ)) (tokens : List Token) (r : Rule) : Type 0 where
   pub derived : Derives names expr tokens r
   pub shallow : IsTrue (is_shallow 0 0 tokens)

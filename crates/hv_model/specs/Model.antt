@@ -1,18 +1,11 @@
 -- What the reader of model files answers.
-use Rattle.std.specs.Prelude.{ℕ, List, All, IsTrue}
-use Rattle.std.specs.List.{list_all}
+use Rattle.std.specs.Prelude.{ℕ, List}
 use Rattle.hv_model.specs.Lines.{Reading, model, fault, Says}
 use Rattle.hv_model.specs.Rule.{Features}
-use Rattle.hv_model.specs.Steps.{fits}
-use Rattle.hv_model.specs.declared.code.Step.{Step}
 use Rattle.hv_model.specs.declared.faults.ModelRefusal.{ModelRefusal}
 use Rattle.hv_model.specs.declared.faults.ModelRefusal.TheVariants.{Bad, Memory}
 
--- each rule speaks of the model's options alone
-abbrev pub AllFit : ℕ → List (List Step) → Type 0
-AllFit n rules = All (λ steps. IsTrue (list_all (fits n) steps)) rules
-
--- the refusal names the fault; want of memory says nothing
+-- the refusal names the fault; out of memory says nothing
 abbrev pub IsRefusalIn : (Reading → Type 0) → ModelRefusal → Type 0
 IsRefusalIn Holds (Bad found) = Holds (fault found.line found.kind)
 IsRefusalIn Holds Memory = Unit {0}
@@ -21,5 +14,6 @@ IsRefusalIn Holds Memory = Unit {0}
 abbrev pub IsModelOf : List ℕ → Features → Type 0
 IsModelOf bytes m = Says bytes (model m)
 
+-- the file has the fault that the refusal names; out of memory says nothing
 abbrev pub IsRefusalOf : List ℕ → ModelRefusal → Type 0
 IsRefusalOf bytes refusal = IsRefusalIn (Says bytes) refusal

@@ -3,6 +3,7 @@ use Rattle.std.specs.Prelude.{◌≡◌, ℕ, Bool, false, ◌&&◌, ◌||◌, n
 use Rattle.std.specs.List.{list_all, slice_index_or}
 use Rattle.hv_cond.specs.Diagram.{IsBefore}
 
+-- a rule; an option goes by its number
 pub data Rule : Type 0 where
   option : ℕ → Rule
   negation : Rule → Rule
@@ -23,7 +24,7 @@ meets values (conjunction r s) = meets values r && meets values s
 meets values (disjunction r s) = meets values r || meets values s
 meets values (implication r s) = not (meets values r) || meets values s
 
--- whether a rule speaks of the first so many options alone
+-- whether a rule speaks of the first so many options only
 abbrev pub is_about : ℕ → Rule → Bool
 is_about n (option i) = nat_lt i n
 is_about n (negation r) = is_about n r
@@ -31,6 +32,7 @@ is_about n (conjunction r s) = is_about n r && is_about n s
 is_about n (disjunction r s) = is_about n r && is_about n s
 is_about n (implication r s) = is_about n r && is_about n s
 
+-- whether the options' values meet every rule
 abbrev pub meets_all : List Bool → List Rule → Bool
 meets_all values rules = list_all (meets values) rules
 

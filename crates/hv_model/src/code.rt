@@ -3,7 +3,7 @@ ghost use Rattle.std.specs.Prelude.{◌≡◌, ◌≤◌, [], ◌∷◌, ◌++�
 ghost use Rattle.hv_cond.specs.Diagram.{IsNode, Keeps, holds};
 ghost use Rattle.std.specs.List.{list_all};
 ghost use Rattle.hv_model.specs.Rule.{meets as meets_rule};
-ghost use Rattle.hv_model.specs.Steps.{fits as step_fits};
+ghost use Rattle.hv_model.specs.working.Steps.{fits as step_fits};
 
 use crate::conds::Conds;
 use crate::stack::Stack;
@@ -41,14 +41,14 @@ impl std::marker::Model for Code {
 
     ghost view = { λ code. code.steps.items };
 
-    ghost use Rattle.hv_model.specs.Steps.{IsLow};
+    ghost use Rattle.hv_model.specs.working.Steps.{IsLow};
 
     ghost invariant = { λ code. IsLow code.steps.items };
 }
 
 impl Code {
-    ghost use Rattle.hv_model.specs.Machine.{negated_times};
-    ghost use Rattle.hv_model.specs.Steps.{IsOperator, after, fits, items_of, rule_of};
+    ghost use Rattle.hv_model.specs.working.Machine.{negated_times};
+    ghost use Rattle.hv_model.specs.working.Steps.{IsOperator, after, fits, items_of, rule_of};
 
     /// No steps.
     pub(crate) fn new(alloc: Global) -> Code

@@ -1,9 +1,9 @@
 //! A stack of conditions.
 ghost use Rattle.std.specs.Prelude.{◌≡◌, ◌<◌, [], ◌∷◌, true, Bool, List, length, IfOk, IfSome, MatchOption, OnOk, OnErr};
 ghost use Rattle.hv_cond.specs.Diagram.{IsNode, Keeps, holds};
-ghost use Rattle.hv_model.specs.Conds.{AllNodes, held};
+ghost use Rattle.hv_model.specs.working.Conds.{AllNodes, held};
 ghost use Rattle.hv_model.specs.declared.code.Step.TheVariants.{Option};
-ghost use Rattle.hv_model.specs.Steps.{both_of, either_of, fits, implied_of, opposite_of, values_after};
+ghost use Rattle.hv_model.specs.working.Steps.{both_of, either_of, fits, implied_of, opposite_of, values_after};
 
 use crate::code::Step;
 use hv_cond::{Cond, Store};

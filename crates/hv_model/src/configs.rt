@@ -1,7 +1,8 @@
 //! Texts of configurations.
 ghost use Rattle.std.specs.Prelude.{◌≡◌, ◌<◌, ◌≤◌, ◌+◌, ◌∷◌, ◌++◌, [], ℕ, Bool, List, false, replicate, length, map, cond, take, IfErr, IfOk, OnOk};
 ghost use Rattle.std.specs.List.{join_with_byte, position_or_len, slice_split};
-ghost use Rattle.hv_model.specs.Config.{ConfigReading, IsConfigFault, config as said, config_from, config_of, is_comma, names_on, pieces_in, pieces_of, rest_len, text_of};
+ghost use Rattle.hv_model.specs.Config.{ConfigReading, IsConfigFault, config as said, config_from, config_of, is_comma, names_on, pieces_of, text_of};
+ghost use Rattle.hv_model.specs.working.Pieces.{pieces_in, rest_len};
 
 use crate::faults::ConfigFault;
 use crate::model::Model;
@@ -16,7 +17,7 @@ fn piece_len(text: &[u8]) -> usize
     text.iter().take_while(|byte| **byte != b',').count()
 }
 
-/// The first piece, and what stands behind its comma.
+/// The first piece, and what stands after its comma.
 fn next_piece(text: &[u8]) -> (&[u8], Option<&[u8]>)
     ensures cut { slice_split is_comma text.now ≡ result.0.now ∷ pieces_in result.1 }
     ensures shorter { rest_len result.1 ≤ length text.now }
@@ -54,6 +55,7 @@ fn take_piece(
 /// The configuration that a text says: names of options that are on, joined by commas.
 pub fn read_config(alloc: Global, model: &Model, text: &str) -> Result<Config, ConfigFault>
     ensures accepted { IfOk result (λ found. config_of model.now.names text.now ≡ said found.on) }
+    ensures values { IfOk result (λ found. length found.on ≡ length model.now.names) }
     ensures refused { IfErr result (IsConfigFault (config_of model.now.names text.now)) }
 {
     let Ok(mut on) = all_off(alloc, model.options()) else {
@@ -77,6 +79,7 @@ fn read_pieces(model: &Model, on: &mut Vec<bool>, text: &[u8]) -> Result<(), Con
     requires { length on.old.items ≡ length model.now.names }
     ensures taken { OnOk result (config_from model.now.names on.old.items 0 (pieces_of text.now) ≡ said on.new.items) }
     ensures refused { IfErr result (IsConfigFault (config_from model.now.names on.old.items 0 (pieces_of text.now))) }
+    ensures length { OnOk result (length on.new.items ≡ length on.old.items) }
 {
     let mut rest = if text.is_empty() { None } else { Some(text) };
     let mut number = 0u64;
@@ -106,7 +109,7 @@ pub fn print_config(alloc: Global, model: &Model, config: &Config) -> Result<Tex
     Ok(text)
 }
 
-/// Adds a name, behind a comma unless it is the first.
+/// Adds a name, after a comma unless it is the first.
 fn add_name(text: &mut Text, is_first: bool, name: &[u8]) -> Result<(), Memory>
     ensures { OnOk result (text.new ≡ cond is_first (text.old ++ name.now) (text.old ++ 44 ∷ name.now)) }
 {

@@ -2,13 +2,21 @@
 ghost use Rattle.std.specs.Prelude.{◌≡◌};
 ghost use Rattle.hv_model.specs.ModelKind.{kind_name, kind_number};
 
-/// What is wrong with a line of a model file.
+use thiserror::Error;
+
+// SAME: faults of a model file
+/// What is wrong with a model file.
 #[derive(Clone, Copy, Debug, PartialEq, Eq)]
 pub enum ModelKind {
+    /// The line is neither empty, a comment, an option nor a rule.
     BadLine,
+    /// An option line names an option of an earlier line.
     Repeated,
+    /// A rule names what is no option of an earlier line.
     Unknown,
+    /// An option line would make option 257.
     TooMany,
+    /// No line has a fault, and no configuration meets all rules.
     NoConfiguration,
 }
 
@@ -43,18 +51,26 @@ pub struct ModelFault {
 }
 
 /// Why there is no model.
-#[derive(Clone, Copy, Debug, PartialEq, Eq)]
+#[derive(Clone, Copy, Debug, PartialEq, Eq, Error)]
 pub enum ModelRefusal {
+    /// The file has a fault; this is the first one.
+    #[error("line {}: {}", .0.line, .0.kind.name())]
     Bad(ModelFault),
+    /// There was not enough memory to read it.
+    #[error("out of memory")]
     Memory,
 }
 
 /// Why a text is no configuration. Pieces are counted from 0.
-#[derive(Clone, Copy, Debug, PartialEq, Eq)]
+#[derive(Clone, Copy, Debug, PartialEq, Eq, Error)]
 pub enum ConfigFault {
     /// The piece names no option.
+    #[error("piece {piece} names no option")]
     Unknown { piece: u64 },
     /// The piece stood before.
+    #[error("piece {piece} stood before")]
     Repeated { piece: u64 },
+    /// There was not enough memory to read it.
+    #[error("out of memory")]
     Memory,
 }

@@ -2,14 +2,15 @@
 //! configurations.
 #![tactic(auto)]
 
-mod bytes;
 mod code;
 mod conds;
 mod configs;
+mod diagram;
 mod faults;
 mod force;
-mod lines;
+mod join;
 mod model;
+mod model_line;
 mod name;
 mod names;
 mod order;
@@ -19,12 +20,13 @@ mod scan;
 mod stack;
 mod walk;
 
-pub use bytes::is_blank;
 pub use configs::{print_config, read_config};
 pub use faults::{ConfigFault, ModelFault, ModelKind, ModelRefusal};
-pub use model::{Model, is_valid, least_valid, read_model, valid_cond};
+pub use diagram::{ModelDiagram, least_valid, read_diagram, read_model, valid_cond};
+pub use model::{Model, is_valid};
 pub use scan::skip_blanks;
 
+// SAME: reserved names
 /// The words that name no option: the keywords, and the names that preprocessing keeps for itself
 /// (ISO/IEC 9899:1999, 6.4.1, 6.10.8).
 pub const RESERVED: [&str; 48] = [

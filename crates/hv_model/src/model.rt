@@ -2,26 +2,24 @@
 ghost use Rattle.std.specs.Prelude.{◌≡◌, ◌+◌, ◌<◌, ◌≤◌, ◌↔◌, [], ◌∷◌, ◌++◌, ℕ, Bool, List, Some, false, true, slice_get, position, length, map, IfErr, IfNone, IfOk, IfSome, IsTrue, OnOk};
 ghost use Rattle.std.specs.List.{list_all};
 ghost use Rattle.std.specs.Str.{bytes_eq};
-ghost use Rattle.hv_cond.specs.Diagram.{IsNode, Keeps, holds};
 ghost use Rattle.hv_model.specs.Grammar.{IsRule};
-ghost use Rattle.hv_model.specs.Lines.{Reading, Reads, SaysOne, line_of, option_line, rule_line, bad_line};
-ghost use Rattle.hv_model.specs.Model.{AllFit, IsModelOf, IsRefusalIn, IsRefusalOf};
+ghost use Rattle.hv_model.specs.Lines.{Reading, Reads, line_of, option_line, rule_line, bad_line};
+ghost use Rattle.hv_model.specs.Model.{IsRefusalIn, IsRefusalOf};
+ghost use Rattle.hv_model.specs.working.Steps.{AllFit};
 ghost use Rattle.hv_model.specs.Name.{AllOptionNames, are_distinct, is_option_name as option_name};
-ghost use Rattle.hv_model.specs.Rule.{Features, IsLeastValid, IsValid, is_about, meets_all};
-ghost use Rattle.hv_model.specs.Steps.{fits, rule_of};
+ghost use Rattle.hv_model.specs.Rule.{Features, IsValid, is_about, meets_all};
+ghost use Rattle.hv_model.specs.working.Steps.{fits, rule_of};
 ghost use Rattle.hv_model.specs.Token.{Token, tokens};
-ghost use Rattle.hv_model.specs.Bytes.{without_return};
+ghost use Rattle.hv_model.specs.working.ModelLine.{IsRead};
 ghost use Rattle.hv_model.specs.declared.faults.ModelRefusal.TheVariants.{Bad};
 
-use crate::bytes::next_line;
 use crate::code::Code;
 use crate::faults::{ModelFault, ModelKind, ModelRefusal};
-use crate::lines::{Line, read_line};
-use crate::names::{MOST_OPTIONS, Names};
+use crate::model_line::{ModelLine, next_line, read_line, strip_return};
+use crate::names::Names;
 use crate::rules::read_rule;
-use hv_base::{Config, List, Memory};
-use hv_cond::{Cond, Store};
-use std::alloc::{AllocError, Global};
+use hv_base::{Config, MOST_OPTIONS};
+use std::alloc::Global;
 
 /// A feature model: the options of a product line, in order, and the rules on them.
 #[derive(Debug, Drop)]
@@ -32,15 +30,15 @@ pub struct Model {
 
 impl std::marker::Model for Model {
     ghost use Rattle.hv_model.specs.Rule.{Features};
-    ghost use Rattle.hv_model.specs.Codes.{features_code};
+    ghost use Rattle.hv_model.specs.working.Codes.{features_code};
 
     ghost Value = { Features };
 
     ghost coded = { features_code };
 
     ghost use Rattle.std.specs.Prelude.{length, map};
-    ghost use Rattle.hv_model.specs.Model.{AllFit};
-    ghost use Rattle.hv_model.specs.Steps.{rule_of};
+    ghost use Rattle.hv_model.specs.working.Steps.{AllFit};
+    ghost use Rattle.hv_model.specs.working.Steps.{rule_of};
 
     ghost view = { λ m. record { names = m.names; rules = map rule_of m.rules.items } };
 
@@ -84,6 +82,19 @@ impl Model {
         self.names.position(name)
     }
 
+    /// The codes of the rules, in order.
+    pub(crate) fn rules(&self) -> &[Code]
+        ensures rules { map rule_of result.now ≡ self.now.rules }
+        ensures fit { AllFit (length self.now.names) result.now }
+    {
+        self.rules.as_slice()
+    }
+
+    /// What the model was made with.
+    pub(crate) fn allocator(&self) -> Global {
+        *self.rules.allocator()
+    }
+
     /// Whether the options' values meet every rule.
     fn meets_all(&self, values: &[bool]) -> bool
         ensures { result ≡ meets_all values.now self.now.rules }
@@ -112,37 +123,8 @@ pub fn is_valid(model: &Model, config: &Config) -> bool
     model.meets_all(config.on.as_slice())
 }
 
-/// The condition that the variables, which are the options, have values that meet each rule.
-fn conjunction(rules: &[Code], store: &mut Store) -> Result<Cond, AllocError>
-    requires { AllFit store.old.variables rules.now }
-    ensures keeps { Keeps store.old store.new }
-    ensures node { IfOk result (IsNode store.new) }
-    ensures meaning { IfOk result (λ c. (values : List Bool) → holds store.new c values ≡ meets_all values (map rule_of rules.now)) }
-{
-    let mut all = store.truth();
-    for rule in rules {
-        let one = rule.cond(store)?;
-        all = store.and(all, one)?;
-    }
-    Ok(all)
-}
-
-/// The condition that holds exactly under the valid configurations; variable i is option i.
-pub fn valid_cond(model: &Model, store: &mut Store) -> Result<Cond, Memory>
-    requires { store.old.variables ≡ length model.now.names }
-    ensures keeps { Keeps store.old store.new }
-    ensures node { IfOk result (IsNode store.new) }
-    ensures meaning { IfOk result (λ c. (values : List Bool) → holds store.new c values ≡ meets_all values model.now.rules) }
-    ensures valid { IfOk result (λ c. (values : List Bool) → length values ≡ length model.now.names → (IsTrue (holds store.new c values) ↔ IsValid model.now values)) }
-{
-    match conjunction(&model.rules, store) {
-        Ok(cond) => Ok(cond),
-        Err(_) => Err(Memory),
-    }
-}
-
 /// The refusal for a fault of a line.
-fn bad(line: u64, kind: ModelKind) -> ModelRefusal
+pub(crate) fn bad(line: u64, kind: ModelKind) -> ModelRefusal
     ensures { result ≡ Bad (record { line = line; kind = kind }) }
 {
     ModelRefusal::Bad(ModelFault { line, kind })
@@ -202,42 +184,18 @@ impl Model {
         ensures refused { IfErr result (λ refusal. (more : List (List ℕ)) → IsRefusalIn (Reads self.old number (line.now ∷ more)) refusal) }
     {
         match read_line(line) {
-            Line::Nothing => Ok(()),
-            Line::Option(name) => self.add_option(name, number),
-            Line::Rule(text) => self.add_rule(text, number),
-            Line::Bad => Err(bad(number, ModelKind::BadLine)),
+            ModelLine::Nothing => Ok(()),
+            ModelLine::Option(name) => self.add_option(name, number),
+            ModelLine::Rule(text) => self.add_rule(text, number),
+            ModelLine::Bad => Err(bad(number, ModelKind::BadLine)),
         }
     }
 }
 
-/// The least valid configuration, in the model's order and off before on, or `None` where none is valid.
-pub fn least_valid(alloc: Global, model: &Model) -> Result<Option<Config>, Memory>
-    ensures least { IfOk result (λ answer. IfSome answer (λ config. IsLeastValid model.now config.on)) }
-    ensures none { IfOk result (λ answer. IfNone answer ((values : List Bool) → ¬ (IsValid model.now values))) }
-{
-    let mut store = Store::new(alloc, model.options() as u32)?;
-    let valid = valid_cond(model, &mut store)?;
-    let Some(on) = store.pick(valid)? else {
-        return Ok(None);
-    };
-    Ok(Some(Config {
-        on: List::from_vec(on),
-    }))
-}
-
-/// One carriage return at a line's end is no part of it.
-fn strip_return(line: &[u8]) -> &[u8]
-    ensures { result.now ≡ without_return line.now }
-{
-    line.strip_suffix(b"\r").unwrap_or(line)
-}
-
-/// Reads a model file. The fault is the first one.
-pub fn read_model(alloc: Global, bytes: &[u8]) -> Result<Model, ModelRefusal>
-    ensures accepted { IfOk result (IsModelOf bytes.now) }
-    ensures configuration { IfOk result (λ model. (values : List Bool) × IsValid model values) }
+/// Reads the lines of a model file, whether a configuration is valid or not. The fault is the first one.
+pub(crate) fn read_lines(alloc: Global, bytes: &[u8]) -> Result<Model, ModelRefusal>
+    ensures read { IfOk result (IsRead bytes.now) }
     ensures refused { IfErr result (IsRefusalOf bytes.now) }
-    ensures one_reading { SaysOne bytes.now }
 {
     let mut model = Model::new(alloc);
     let mut number = 1u64;
@@ -247,9 +205,5 @@ pub fn read_model(alloc: Global, bytes: &[u8]) -> Result<Model, ModelRefusal>
         number += 1;
         rest = more;
     }
-    match least_valid(alloc, &model) {
-        Ok(Some(_)) => Ok(model),
-        Ok(None) => Err(bad(0, ModelKind::NoConfiguration)),
-        Err(_) => Err(ModelRefusal::Memory),
-    }
+    Ok(model)
 }

@@ -7,9 +7,6 @@ ghost use Rattle.hv_model.specs.Name.{AllOptionNames, are_distinct, is_option_na
 
 use std::alloc::{AllocError, Global};
 
-/// How many options a model may have.
-pub(crate) const MOST_OPTIONS: usize = 256;
-
 /// The names of a model's options, in order. Contracts see them as the list of these.
 #[derive(Debug, Drop)]
 pub(crate) struct Names {

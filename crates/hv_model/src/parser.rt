@@ -46,11 +46,11 @@ pub(crate) struct Parser {
 }
 
 impl Parser {
-    ghost use Rattle.hv_model.specs.Machine.{IsSaid, IsTaken, after_close, completed, expr_done, finished, frame, have, is_allowed, limited_step, or_done, start, step_having, step_wanting, want};
-    ghost use Rattle.hv_model.specs.Parsed.{machine_of};
-    ghost use Rattle.hv_model.specs.Said.{said};
+    ghost use Rattle.hv_model.specs.working.Machine.{IsSaid, IsTaken, after_close, completed, expr_done, finished, frame, have, is_allowed, limited_step, or_done, start, step_having, step_wanting, want};
+    ghost use Rattle.hv_model.specs.working.Parsed.{machine_of};
+    ghost use Rattle.hv_model.specs.working.Said.{said};
     ghost use Rattle.hv_model.specs.Rule.{option};
-    ghost use Rattle.hv_model.specs.Steps.{items_of, supposed, supposed_too, value};
+    ghost use Rattle.hv_model.specs.working.Steps.{items_of, supposed, supposed_too, value};
 
     pub(crate) fn new(alloc: Global) -> Parser
         ensures { machine_of result ≡ start }
@@ -187,7 +187,7 @@ impl Parser {
         Ok(true)
     }
 
-    /// Takes a token behind an operand, and says whether it may stand there.
+    /// Takes a token after an operand, and says whether it may stand there.
     fn take_having(&mut self, token: Token<'_>) -> Result<bool, AllocError>
         ensures { IfOk result (λ went. IsTaken (step_having self.old.top (reverse self.old.outer.items) (items_of self.old.code) (said token.entry)) went (machine_of self.new)) }
     {

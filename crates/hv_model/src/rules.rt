@@ -3,7 +3,7 @@ ghost use Rattle.std.specs.Prelude.{◌≡◌, ℕ, IfNone, IfOk, IfSome};
 ghost use Rattle.std.specs.List.{list_all};
 ghost use Rattle.hv_model.specs.Grammar.{IsRule};
 ghost use Rattle.hv_model.specs.Rule.{Rule, is_about};
-ghost use Rattle.hv_model.specs.Steps.{fits, rule_of};
+ghost use Rattle.hv_model.specs.working.Steps.{fits, rule_of};
 ghost use Rattle.hv_model.specs.Token.{tokens};
 
 use crate::code::Code;

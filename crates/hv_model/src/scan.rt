@@ -2,12 +2,12 @@
 ghost use Rattle.std.specs.Prelude.{◌≡◌, ◌<◌, ◌≤◌, [], ◌∷◌, false, true, length, slice_index, IfNone, IfSome};
 ghost use Rattle.std.specs.List.{prefix_len};
 ghost use Rattle.std.specs.Option.{option_map};
-ghost use Rattle.hv_model.specs.Bytes.{is_blank as blank, without_front_blanks};
-ghost use Rattle.hv_model.specs.Said.{said};
-ghost use Rattle.hv_model.specs.Token.{tokens, pair_of, single as single_of, is_word_byte as word_byte};
+ghost use Rattle.hv_base.specs.Ascii as ascii;
+ghost use Rattle.hv_model.specs.Bytes.{without_front_blanks};
+ghost use Rattle.hv_model.specs.working.Said.{said};
+ghost use Rattle.hv_model.specs.Token.{tokens, pair_of, single as single_of};
 
-use crate::bytes::is_blank;
-use crate::name::is_word_byte;
+use hv_base::{is_blank, is_identifier_byte};
 
 /// A token of a line.
 #[derive(Clone, Copy)]
@@ -26,7 +26,7 @@ pub(crate) enum Token<'a> {
 
 /// How many blanks the text begins with.
 fn blank_len(text: &[u8]) -> usize
-    ensures value { result ≡ prefix_len blank text.now }
+    ensures value { result ≡ prefix_len ascii.is_blank text.now }
     ensures within { result ≤ length text.now }
 {
     text.iter().take_while(|byte| is_blank(**byte)).count()
@@ -34,18 +34,18 @@ fn blank_len(text: &[u8]) -> usize
 
 /// How many bytes of a word the text begins with.
 fn word_len(text: &[u8]) -> usize
-    ensures value { result ≡ prefix_len word_byte text.now }
+    ensures value { result ≡ prefix_len ascii.is_identifier_byte text.now }
     ensures within { result ≤ length text.now }
 {
-    text.iter().take_while(|byte| is_word_byte(**byte)).count()
+    text.iter().take_while(|byte| is_identifier_byte(**byte)).count()
 }
 
-/// The text behind the blanks at its front.
+/// The text after its first blanks.
 pub fn skip_blanks(text: &[u8]) -> &[u8]
     ensures value { result.now ≡ without_front_blanks text.now }
     ensures same { tokens result.now ≡ tokens text.now }
     ensures shorter { length result.now ≤ length text.now }
-    ensures front { prefix_len blank result.now ≡ 0 }
+    ensures front { prefix_len ascii.is_blank result.now ≡ 0 }
 {
     &text[blank_len(text)..]
 }
@@ -74,10 +74,10 @@ fn single(byte: u8) -> Token<'static>
     }
 }
 
-/// The word at the front, and what follows it.
+/// The word that the text begins with, and what follows it.
 fn word(text: &[u8]) -> (Token<'_>, &[u8])
     requires some { 0 < length text.now }
-    requires word { word_byte (slice_index text.now 0) ≡ true }
+    requires word { ascii.is_identifier_byte (slice_index text.now 0) ≡ true }
     ensures cut { tokens text.now ≡ said result.0 ∷ tokens result.1.now }
     ensures shorter { length result.1.now < length text.now }
 {
@@ -85,11 +85,11 @@ fn word(text: &[u8]) -> (Token<'_>, &[u8])
     (Token::Word(&text[..end]), &text[end..])
 }
 
-/// The token at the front that is no word, and what follows it.
+/// The token that the text begins with, where it is no word, and what follows it.
 fn symbol(text: &[u8]) -> (Token<'_>, &[u8])
     requires some { 0 < length text.now }
-    requires no_blank { blank (slice_index text.now 0) ≡ false }
-    requires no_word { word_byte (slice_index text.now 0) ≡ false }
+    requires no_blank { ascii.is_blank (slice_index text.now 0) ≡ false }
+    requires no_word { ascii.is_identifier_byte (slice_index text.now 0) ≡ false }
     ensures cut { tokens text.now ≡ said result.0 ∷ tokens result.1.now }
     ensures shorter { length result.1.now < length text.now }
 {
@@ -111,7 +111,7 @@ pub(crate) fn next_token(text: &[u8]) -> Option<(Token<'_>, &[u8])>
     if rest.is_empty() {
         return None;
     }
-    if is_word_byte(rest[0]) {
+    if is_identifier_byte(rest[0]) {
         Some(word(rest))
     } else {
         Some(symbol(rest))

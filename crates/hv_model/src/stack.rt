@@ -1,7 +1,7 @@
 //! A stack of truth values.
 ghost use Rattle.std.specs.Prelude.{◌≡◌, ◌<◌, ◌≤◌, [], ◌∷◌, false, length, MatchOption};
 ghost use Rattle.std.specs.List.{slice_index_or};
-ghost use Rattle.hv_model.specs.Steps.{both_of, either_of, implied_of, opposite_of, top_of, values_after};
+ghost use Rattle.hv_model.specs.working.Steps.{both_of, either_of, implied_of, opposite_of, top_of, values_after};
 
 use crate::code::Step;
 

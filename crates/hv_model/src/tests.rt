@@ -1,6 +1,6 @@
 use super::*;
 use hv_base::{Config, List};
-use hv_cond::Store;
+use hv_cond::{Node, Store};
 use std::alloc::Global;
 use std::process::Abort;
 use std::test::Fail;
@@ -233,5 +233,78 @@ fn the_least_valid_configuration_is_named(rt: HostRuntime) -> Result<(), Fail> {
         let printed = print_config(rt.alloc(), &model, &config)?;
         assert_eq!(rt; printed.as_slice(), least.as_bytes(), "at {text:?}");
     }
+    Ok(())
+}
+
+/// Adds a line for each option from 0 on, of this letter and its number.
+fn add_options(text: &mut String, alloc: Global, letter: &str, count: u32) -> Result<(), Fail> {
+    for number in 0..count {
+        text.push_str("option ")?;
+        text.push_str(letter)?;
+        text.push_str(number.to_string(alloc)?.as_str())?;
+        text.push_str("\n")?;
+    }
+    Ok(())
+}
+
+/// Options in two blocks, and between each and its partner this operator; before each pair this text.
+fn partners(alloc: Global, count: u32, before: &str, operator: &str) -> Result<String, Fail> {
+    let mut text = String::new(alloc);
+    add_options(&mut text, alloc, "x", count)?;
+    add_options(&mut text, alloc, "y", count)?;
+    text.push_str("rule x0")?;
+    text.push_str(operator)?;
+    text.push_str("y0")?;
+    for number in 1..count {
+        let number = number.to_string(alloc)?;
+        text.push_str(before)?;
+        text.push_str("x")?;
+        text.push_str(number.as_str())?;
+        text.push_str(operator)?;
+        text.push_str("y")?;
+        text.push_str(number.as_str())?;
+    }
+    Ok(text)
+}
+
+#[test]
+fn partners_in_two_blocks_have_a_small_diagram(rt: HostRuntime) -> Result<(), Fail> {
+    let table = [("\nrule ", " => ", ""), (" || ", " && ", "x63,y63")];
+    for (before, operator, least) in table {
+        let text = partners(rt.alloc(), 64, before, operator)?;
+        let Ok(diagram) = read_diagram(rt.alloc(), text.as_bytes()) else {
+            panic!(rt; "the model is read");
+        };
+        let Some(config) = diagram.least()? else {
+            panic!(rt; "a configuration is valid");
+        };
+        assert_eq!(rt; config.on.len(), 128);
+        let printed = print_config(rt.alloc(), &diagram.model, &config)?;
+        assert_eq!(rt; printed.as_slice(), least.as_bytes(), "at {operator:?}");
+    }
+    Ok(())
+}
+
+#[test]
+fn the_least_configuration_goes_by_number_whatever_the_order(rt: HostRuntime) -> Result<(), Fail> {
+    let text = "\
+        option A\n\
+        option B\n\
+        option C\n\
+        rule B || A\n\
+        rule A || C\n";
+    let Ok(model) = read_model(rt.alloc(), text.as_bytes()) else {
+        panic!(rt; "the model is read");
+    };
+    let diagram = ModelDiagram::new(rt.alloc(), model)?;
+    match diagram.store.node(diagram.valid) {
+        Node::Branch { var, .. } => assert_eq!(rt; var, 1),
+        _ => panic!(rt; "the rules may hold and may not"),
+    }
+    let Some(config) = diagram.least()? else {
+        panic!(rt; "a configuration is valid");
+    };
+    let printed = print_config(rt.alloc(), &diagram.model, &config)?;
+    assert_eq!(rt; printed.as_slice(), b"B,C".as_slice());
     Ok(())
 }

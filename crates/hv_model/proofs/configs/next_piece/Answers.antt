@@ -1,5 +1,5 @@
 use Rattle.hv_model.specs.Config.{is_comma}
-use Rattle.hv_model.proofs.ListLemmas.{take-rest, slice_split_front, slice_split_whole}
+use Rattle.hv_base.proofs.Lists.{take-rest, slice_split_front, slice_split_whole}
 use Rattle.hv_model.proofs.configs.next_piece.Goals as goal
 
 pub returns-then-end-text-clause-cut : goal.returns-then-end-text-clause-cut

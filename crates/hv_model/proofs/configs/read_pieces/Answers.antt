@@ -1,6 +1,7 @@
 use Rattle.std.proofs.Common.{◌∙◌, ◌∷◌, ap, arith}
 use Rattle.std.proofs.lemmas.Result.{err_from_is_err_and}
-use Rattle.hv_model.specs.Config.{config_from, pieces_in}
+use Rattle.hv_model.specs.Config.{config_from}
+use Rattle.hv_model.specs.working.Pieces.{pieces_in}
 use Rattle.hv_model.proofs.ConfigLemmas.{fault_at, rest_smaller}
 use Rattle.hv_model.proofs.configs.read_pieces.Goals as goal
 

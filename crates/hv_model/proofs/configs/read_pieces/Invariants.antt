@@ -1,5 +1,6 @@
 use Rattle.std.proofs.Common.{◌≡◌, ◌+◌, ◌≤◌, length}
-use Rattle.hv_model.specs.Config.{config_from, pieces_in, pieces_of, rest_len}
+use Rattle.hv_model.specs.Config.{config_from, pieces_of}
+use Rattle.hv_model.specs.working.Pieces.{pieces_in, rest_len}
 use Rattle.hv_model.proofs.configs.read_pieces.Given as goal
 
 -- what is left is read behind what was read so far; no more pieces were read than bytes

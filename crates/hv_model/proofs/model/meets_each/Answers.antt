@@ -1,6 +1,6 @@
 use Rattle.std.proofs.Common.{sym, ◌∙◌, ap}
 use Rattle.hv_model.specs.Rule.{meets}
-use Rattle.hv_model.specs.Steps.{rule_of}
+use Rattle.hv_model.specs.working.Steps.{rule_of}
 use Rattle.hv_model.proofs.CondLemmas.{meets_all-false}
 use Rattle.hv_model.proofs.model.meets_each.Goals as goal
 

@@ -1,5 +1,5 @@
 use Rattle.std.proofs.lemmas.Result.{IfOk-weaker}
-use Rattle.hv_model.specs.Said.{said}
+use Rattle.hv_model.specs.working.Said.{said}
 use Rattle.hv_model.proofs.ReadRule.{reading_room, reading_step, reading_stuck, reading_none, reading_some, reading_about, IfOk-both, taken_stuck, taken_went}
 use Rattle.hv_model.proofs.rules.read_rule.Goals as goal
 

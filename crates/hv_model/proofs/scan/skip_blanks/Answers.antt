@@ -1,4 +1,4 @@
-use Rattle.hv_model.proofs.ListLemmas.{take-rest}
+use Rattle.hv_base.proofs.Lists.{take-rest}
 use Rattle.hv_model.proofs.TokenLemmas.{skipped, skipped_blanks, tokens-skipped}
 use Rattle.hv_model.proofs.scan.skip_blanks.Goals as goal
 

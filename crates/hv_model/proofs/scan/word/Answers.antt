@@ -1,4 +1,4 @@
-use Rattle.hv_model.proofs.ListLemmas.{take-rest}
+use Rattle.hv_base.proofs.Lists.{take-rest}
 use Rattle.hv_model.proofs.TokenLemmas.{tokens_word}
 use Rattle.hv_model.proofs.scan.word.Goals as goal
 

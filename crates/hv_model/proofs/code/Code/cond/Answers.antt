@@ -1,6 +1,6 @@
 use Rattle.std.proofs.Common.{◌∙◌, ap}
 use Rattle.hv_model.specs.Rule.{meets}
-use Rattle.hv_model.specs.Steps.{rule_of}
+use Rattle.hv_model.specs.working.Steps.{rule_of}
 use Rattle.hv_model.proofs.CondLemmas.{making_step, made_meaning, made_none}
 use Rattle.hv_model.proofs.code.Code.cond.Goals as goal
 

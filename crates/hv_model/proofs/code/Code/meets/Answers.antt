@@ -1,6 +1,6 @@
 use Rattle.std.proofs.Common.{◌∙◌, ap}
 use Rattle.hv_model.specs.Rule.{meets}
-use Rattle.hv_model.specs.Steps.{rule_of}
+use Rattle.hv_model.specs.working.Steps.{rule_of}
 use Rattle.hv_model.proofs.StepLemmas.{values-all, values-low, values-more}
 use Rattle.hv_model.proofs.code.Code.meets.Goals as goal
 

@@ -1,5 +1,5 @@
 use Rattle.std.proofs.Common.{◌≡◌, take}
-use Rattle.hv_model.specs.Steps.{items_of}
+use Rattle.hv_model.specs.working.Steps.{items_of}
 use Rattle.hv_model.proofs.StepLemmas.{truths}
 use Rattle.hv_model.proofs.code.Code.meets.Given as goal
 

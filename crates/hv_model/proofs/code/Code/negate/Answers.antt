@@ -1,6 +1,6 @@
 use Rattle.std.proofs.Common.{◌∙◌, ap}
 use Rattle.hv_model.specs.declared.code.Step.TheVariants.{Not}
-use Rattle.hv_model.specs.Steps.{items_of, negated}
+use Rattle.hv_model.specs.working.Steps.{items_of, negated}
 use Rattle.hv_model.proofs.StepLemmas.{items_of-push, negated_times-after}
 use Rattle.hv_model.proofs.code.Code.negate.Goals as goal
 

@@ -1,6 +1,6 @@
 use Rattle.std.proofs.Common.{◌≡◌}
-use Rattle.hv_model.specs.Machine.{negated_times}
-use Rattle.hv_model.specs.Steps.{items_of}
+use Rattle.hv_model.specs.working.Machine.{negated_times}
+use Rattle.hv_model.specs.working.Steps.{items_of}
 use Rattle.hv_model.proofs.code.Code.negate.Given as goal
 
 abbrev pub invariant-loop : goal.invariant-loop

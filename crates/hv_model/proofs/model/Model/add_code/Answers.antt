@@ -1,7 +1,7 @@
 use Rattle.std.proofs.Common.{◌∙◌, sym, ap}
 use Rattle.std.specs.List.{list_all}
 use Rattle.hv_model.specs.Lines.{unknown}
-use Rattle.hv_model.specs.Steps.{fits}
+use Rattle.hv_model.specs.working.Steps.{fits}
 use Rattle.hv_model.proofs.ReadModel.{rule_added}
 use Rattle.hv_model.proofs.model.Model.add_code.Goals as goal
 use Rattle.hv_model.proofs.model.Model.add_code.Goals.{in-Ok, in-Err}

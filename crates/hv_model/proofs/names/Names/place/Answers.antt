@@ -1,7 +1,7 @@
 use Rattle.std.proofs.Common.{◌∙◌, ap}
 use Rattle.std.specs.Prelude.{unwrap_or, position}
 use Rattle.std.specs.Str.{bytes_eq}
-use Rattle.hv_model.proofs.ListLemmas.{unwrap_or-position}
+use Rattle.hv_base.proofs.Lists.{unwrap_or-position}
 use Rattle.hv_model.proofs.names.Names.place.Goals as goal
 
 pub returns : goal.returns

@@ -3,7 +3,7 @@ use Rattle.std.specs.Str.{bytes_eq}
 use Rattle.std.specs.String.{string_bytes}
 use Rattle.std.proofs.lemmas.Iterator.{YieldsList-from_slice}
 use Rattle.std.proofs.lemmas.Iterator.Search.{position_from_yields_List}
-use Rattle.hv_model.proofs.ListLemmas.{position-map}
+use Rattle.hv_base.proofs.Lists.{position-map}
 use Rattle.hv_model.proofs.names.Names.position.Goals as goal
 
 pub returns : goal.returns

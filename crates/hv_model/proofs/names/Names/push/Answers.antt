@@ -7,7 +7,7 @@ use Rattle.hv_model.specs.Name.{is_option_name, AllOptionNames, are_distinct}
 use Rattle.std.specs.List.{list_any}
 use Rattle.std.specs.Str.{bytes_eq}
 use Rattle.hv_model.proofs.ConfigLemmas.{are_distinct-push}
-use Rattle.hv_model.proofs.ListLemmas.{length-map}
+use Rattle.hv_base.proofs.Lists.{length-map}
 use Rattle.hv_model.proofs.NameLemmas.{IsUtf8-option_name}
 use Rattle.hv_model.proofs.names.Names.push.Goals as goal
 

@@ -1,7 +1,7 @@
 use Rattle.std.proofs.Common.{◌+◌, ◌≤◌, length}
 use Rattle.hv_model.specs.Bytes.{lines_of}
 use Rattle.hv_model.specs.Lines.{Reading, Reads, Says}
-use Rattle.hv_model.proofs.model.read_model.Given as goal
+use Rattle.hv_model.proofs.model.read_lines.Given as goal
 
 -- what is left is read behind what was read so far; no more lines were read than bytes
 abbrev pub invariant-loop-line : goal.invariant-loop-line

@@ -1,9 +1,9 @@
 use Rattle.std.proofs.Common.{◌≡◌, ◌<◌, ℕ, List, false, arith, length}
 use Rattle.std.specs.Bool.{◌==◌}
 use Rattle.std.proofs.lemmas.Bool.Decides.{nat_tests}
-use Rattle.hv_model.proofs.ListLemmas.{take-rest, drop-past}
+use Rattle.hv_base.proofs.Lists.{take-rest, drop-past}
 use Rattle.hv_model.proofs.BytesLemmas.{counted_lines-front, counted_lines-last}
-use Rattle.hv_model.proofs.bytes.next_line.Goals as goal
+use Rattle.hv_model.proofs.model_line.next_line.Goals as goal
 
 some : {b : _} (xs : List ℕ) → b ≡ (length xs == 0) → b ≡ false → 0 < length xs
 some xs e f = grind (arith, nat_tests)

@@ -1,5 +1,0 @@
-use Rattle.hv_model.proofs.CondLemmas.{IsGathering}
-use Rattle.hv_model.proofs.model.conjunction.Given as goal
-
-abbrev pub invariant-loop-rule : goal.invariant-loop-rule
-invariant-loop-rule l = IsGathering l.initial.store l.store l.all l.rules l.rule-index
