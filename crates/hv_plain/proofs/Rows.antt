@@ -2,7 +2,7 @@
 use Rattle.std.specs.Prelude.{ℕ, ◌≡◌, true, false, List, [], ◌∷◌, ◌++◌, map, codes, refl}
 use Rattle.std.specs.Fmt.{digits}
 use Rattle.std.specs.List.{slice_split}
-use Rattle.hv_model.specs.Bytes.{is_newline}
+use Rattle.hv_base.specs.Ascii.{is_newline}
 use Rattle.hv_plain.specs.Bytes.{trimmed}
 use Rattle.hv_plain.specs.Config.{is_on}
 use Rattle.hv_plain.specs.Source.{Line, put, if_defined, if_not_defined, otherwise, end_if, source_lines, is_nested, kept}

@@ -1,6 +1,7 @@
 -- What stands between the tokens of small programs, and around the lines of small sources.
 use Rattle.std.specs.Prelude.{ℕ, Bool, ◌||◌, List, reverse}
-use Rattle.hv_model.specs.Bytes.{is_blank, is_newline, without_front_blanks}
+use Rattle.hv_base.specs.Ascii.{is_blank, is_newline}
+use Rattle.hv_model.specs.Bytes.{without_front_blanks}
 
 -- what may stand between two tokens of a small program
 abbrev pub is_gap : ℕ → Bool

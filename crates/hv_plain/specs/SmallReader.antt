@@ -5,7 +5,7 @@ use Rattle.std.specs.List.{slice_split}
 use Rattle.std.specs.Option.{option_and_then}
 use Rattle.std.specs.Str.{bytes_eq}
 use Rattle.hv_plain.specs.Bytes.{is_gap}
-use Rattle.hv_model.specs.Name.{is_digit}
+use Rattle.hv_base.specs.Ascii.{is_digit}
 use Rattle.hv_plain.specs.declared.small.reader.Due.{Due}
 use Rattle.hv_plain.specs.declared.small.reader.Step.{Step}
 use Rattle.hv_plain.specs.declared.small.reader.State.{State}

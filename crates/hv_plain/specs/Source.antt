@@ -2,7 +2,7 @@
 -- Every other source is none; nothing else of preprocessing or of C is defined here.
 use Rattle.std.specs.Prelude.{ℕ, ◌≡◌, ◌<◌, Bool, true, false, cond, not, ◌&&◌, nat_lt, List, [], ◌∷◌, ◌++◌, length, map, codes, decimal, Contains, IsTrue, All}
 use Rattle.std.specs.List.{slice_split, list_all}
-use Rattle.hv_model.specs.Bytes.{is_newline}
+use Rattle.hv_base.specs.Ascii.{is_newline}
 use Rattle.hv_plain.specs.Bytes.{trimmed}
 
 -- a line of the body
