@@ -71,6 +71,13 @@ impl Bundle {
         Ok(number)
     }
 
+    /// How many names were added.
+    pub fn len(&self) -> usize
+        ensures { result ≡ length self.now.entries }
+    {
+        self.files.len()
+    }
+
     /// What is held under the name, or `None` where the name wasn't added.
     pub fn get(&self, name: &str) -> Option<&Held>
         ensures { option_copied result ≡ bundles.held_at self.now name.now }
