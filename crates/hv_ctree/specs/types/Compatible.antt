@@ -1,4 +1,5 @@
--- Which types are compatible (6.2.7, 6.7.2.2, 6.7.3, 6.7.5). Structures and unions are by their numbers.
+-- Which types are compatible (6.2.7, 6.7.2.2, 6.7.3, 6.7.5). Structures and unions are by their numbers. Not in here:
+-- old-style declarators (6.7.5.3 paragraph 15), since `()` means `(void)` in this profile and no identifier list is in it.
 use Rattle.std.specs.Prelude.{ℕ, Bool, true, false, ◌&&◌, ◌||◌, not, ◌==◌, if◌then◌else◌, Option, None, Some}
 use Rattle.hv_ctree.specs.declared.types.IntKind.TheVariants.{Int}
 use Rattle.hv_ctree.specs.types.Kinds.{same_kind, promoted}
@@ -20,31 +21,6 @@ abbrev pub lengths_agree : Option ℕ → Option ℕ → Bool
 lengths_agree (Some m) (Some n) = m == n
 lengths_agree _ _ = true
 
--- whether a function is declared with `()`, so that nothing is said of its parameters
-abbrev pub says_nothing : Parameters → Bool → Bool
-says_nothing no_parameter variadic = variadic
-says_nothing (parameter t ts) variadic = false
-
--- whether a parameter's type is compatible with what the default argument promotions make of it (6.5.2.2 paragraph 6)
-abbrev pub is_promoted : PlainType → Bool
-is_promoted (plain constant (integer kind)) = same_kind kind (promoted kind)
-is_promoted (plain constant _) = true
-
--- whether each parameter is of such a type
-abbrev pub all_promoted : Parameters → Bool
-all_promoted no_parameter = true
-all_promoted (parameter t ts) = is_promoted t && all_promoted ts
-
--- whether two lists of parameters go together, where `same` says whether those of two prototypes are compatible one by one
--- (6.7.5.3 paragraph 15)
-abbrev pub signatures_agree : Parameters → Bool → Parameters → Bool → Bool → Bool
-signatures_agree ps variadic us variadic' same =
-    if says_nothing ps variadic
-    then (says_nothing us variadic' || (not variadic' && all_promoted us))
-    else (if says_nothing us variadic'
-    then (not variadic && all_promoted ps)
-    else (same_truth variadic variadic' && same))
-
 -- whether two types are compatible where they stand within others: there an array's length is known in both or in neither
 abbrev mutual
   pub alike : PlainType → PlainType → Bool
@@ -61,7 +37,7 @@ abbrev mutual
   shapes_alike (pointer t) (pointer u) = alike t u
   shapes_alike (array t m) (array u n) = same_length m n && alike t u
   shapes_alike (function r ps variadic) (function q us variadic') =
-      alike r q && signatures_agree ps variadic us variadic' (parameters_alike ps us)
+      alike r q && same_truth variadic variadic' && parameters_alike ps us
   shapes_alike _ _ = false
 
   -- whether parameters are compatible one by one, each without its qualifier (6.7.5.3 paragraph 15)

@@ -1,7 +1,6 @@
 -- The composite type of two compatible types (6.2.7 paragraph 3). Of an enumeration and `int` it is the first.
-use Rattle.std.specs.Prelude.{ℕ, false, if◌then◌else◌, Option, None, Some}
+use Rattle.std.specs.Prelude.{Bool, ℕ, false, if◌then◌else◌, Option, None, Some}
 use Rattle.hv_ctree.specs.types.Plain.{PlainType, plain, PlainShape, pointer, array, function, Parameters, parameter}
-use Rattle.hv_ctree.specs.types.Compatible.{says_nothing}
 
 -- the length that is known of two
 abbrev pub known_length : Option ℕ → Option ℕ → Option ℕ
@@ -16,11 +15,7 @@ abbrev mutual
   composite_shape (pointer t) (pointer u) = pointer (composite t u)
   composite_shape (array t m) (array u n) = array (composite t u) (known_length m n)
   composite_shape (function r ps variadic) (function q us variadic') =
-      if says_nothing ps variadic
-      then function (composite r q) us variadic'
-      else (if says_nothing us variadic'
-      then function (composite r q) ps variadic
-      else function (composite r q) (composite_parameters ps us) variadic)
+      function (composite r q) (composite_parameters ps us) variadic
   composite_shape s u = s
 
   -- parameters one by one, each without its qualifier

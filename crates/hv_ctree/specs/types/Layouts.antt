@@ -1,8 +1,9 @@
 -- Sizes, alignments and offsets (6.2.6.1, 6.5.3.4, 6.7.2.1). A type has a layout where it is an object type that is
 -- complete (6.2.5): no array is empty, no structure or union is, and none holds itself.
-use Rattle.std.specs.Prelude.{ℕ, ◌+◌, ◌*◌, ◌-◌, ◌%◌, max, zero, suc, Bool, ◌==◌, if◌then◌else◌, Option, None, Some, List, [], ◌∷◌, length, slice_get}
+use Rattle.std.specs.Prelude.{ℕ, nat_le, ◌||◌, ◌+◌, ◌*◌, ◌-◌, ◌%◌, max, zero, suc, Bool, ◌==◌, if◌then◌else◌, Option, None, Some, List, [], ◌∷◌, length, slice_get}
 use Rattle.std.specs.Option.{option_map, option_and_then}
 use Rattle.hv_ctree.specs.declared.types.Layout.{Layout}
+use Rattle.hv_base.specs.declared.limits.TheConstants.{MOST_OBJECT_BYTES}
 use Rattle.hv_ctree.specs.types.Kinds.{kind_size}
 use Rattle.hv_ctree.specs.types.Plain.{PlainType, plain, PlainShape, void, integer, enumeration, compound, pointer, array, function, PlainMember, PlainCompound}
 
@@ -91,3 +92,12 @@ compound_layout compounds (suc depth) number =
 -- the layout of a type; `None` where it is incomplete or a function
 abbrev pub layout : List PlainCompound → PlainType → Option Layout
 layout compounds t = layout_by (compound_layout compounds (length compounds)) t
+
+-- a layout where its size is within the limit on objects and types
+abbrev pub within_limit : Option Layout → Option Layout
+within_limit None = None
+within_limit (Some l) = if nat_le l.size MOST_OBJECT_BYTES then Some l else None
+
+-- the alignments that types have
+abbrev pub is_alignment : ℕ → Bool
+is_alignment n = n == 1 || n == 2 || n == 4 || n == 8
