@@ -1,8 +1,8 @@
 -- Which types are compatible (6.2.7, 6.7.2.2, 6.7.3, 6.7.5). Structures and unions are by their numbers. Not in here:
 -- old-style declarators (6.7.5.3 paragraph 15), since `()` means `(void)` in this profile and no identifier list is in it.
-use Rattle.std.specs.Prelude.{ℕ, Bool, true, false, ◌&&◌, ◌||◌, not, ◌==◌, if◌then◌else◌, Option, None, Some}
+use Rattle.std.specs.Prelude.{ℕ, Bool, true, false, ◌&&◌, not, ◌==◌, Option, None, Some}
 use Rattle.hv_ctree.specs.declared.types.IntKind.TheVariants.{Int}
-use Rattle.hv_ctree.specs.types.Kinds.{same_kind, promoted}
+use Rattle.hv_ctree.specs.types.Kinds.{same_kind}
 use Rattle.hv_ctree.specs.types.Plain.{PlainType, plain, PlainShape, void, integer, enumeration, compound, pointer, array, function, Parameters, no_parameter, parameter}
 
 -- whether two truth values are one

@@ -1,5 +1,5 @@
 -- The composite type of two compatible types (6.2.7 paragraph 3). Of an enumeration and `int` it is the first.
-use Rattle.std.specs.Prelude.{Bool, ℕ, false, if◌then◌else◌, Option, None, Some}
+use Rattle.std.specs.Prelude.{ℕ, false, Option, None, Some}
 use Rattle.hv_ctree.specs.types.Plain.{PlainType, plain, PlainShape, pointer, array, function, Parameters, parameter}
 
 -- the length that is known of two
