@@ -6,6 +6,8 @@ use Rattle.std.proofs.lemmas.Bool.Decides.{leb_tells, eqb_tells}
 use Rattle.std.proofs.lemmas.Bool.{lt-leb}
 use Rattle.std.proofs.Math.Nat.{mul-le-mul_left}
 use Rattle.hv_ctree.specs.declared.types.Layout.{Layout}
+use Rattle.hv_ctree.specs.declared.types.Member.{Member}
+use Rattle.hv_ctree.specs.types.Erasure.{type_of, member_of}
 use Rattle.hv_base.specs.declared.limits.TheConstants.{MOST_OBJECT_BYTES}
 use Rattle.hv_ctree.specs.types.Plain.{PlainType, plain, PlainShape, void, integer, enumeration, compound, pointer, array, function, PlainMember}
 use Rattle.hv_ctree.specs.types.Layouts.{within_limit, repeated, layout_by, shape_layout_by, rounded_up, laid_out, member_layouts, end_from, largest_size, largest_align, taken}
@@ -232,3 +234,46 @@ module _ (of : ℕ → Option Layout) (is_union : Bool) where
       laid_from of is_union 0 1 (m ∷ ms) ≡ option_and_then (laid_out is_union) (member_layouts of (m ∷ ms))
   laid_whole m ms =
       laid 0 1 (m ∷ ms) (omega arith) ∙ first_of_all (layout_by of m.type) (member_layouts of ms)
+
+  -- the same of declared members
+  pub laid_members : (members : List Member) → (length members ≡ 0 → ⊥) →
+      within_limit (laid_from of is_union 0 1 (map member_of members))
+      ≡ within_limit (option_and_then (laid_out is_union) (member_layouts of (map member_of members)))
+  laid_members [] some = absurd (some refl)
+  laid_members (m ∷ ms) some = ap within_limit (laid_whole (member_of m) (map member_of ms))
+
+  -- the walk at the member with an index
+  member_at : (bytes align : ℕ) (members : List Member) (i : ℕ) (m : Member) → i < length members →
+      m ≡ get_or members i m →
+      laid_from of is_union bytes align (map member_of (drop i members))
+      ≡ laid_from of is_union bytes align (member_of m ∷ map member_of (drop (i + 1) members))
+  member_at bytes align members i m h e =
+      ap (λ xs. laid_from of is_union bytes align (map member_of xs)) (drop-cons members i m h)
+      ∙ (ap (λ x. laid_from of is_union bytes align (member_of x ∷ map member_of (drop (suc i) members))) (sym e)
+      ∙ ap (λ n. laid_from of is_union bytes align (member_of m ∷ map member_of (drop n members))) (sym (add-one i)))
+
+  pub item-none : (bytes align : ℕ) (members : List Member) (i : ℕ) (m : Member) → i < length members →
+      m ≡ get_or members i m → None ≡ within_limit (layout_by of (type_of m.of)) →
+      within_limit (laid_from of is_union bytes align (map member_of (drop i members))) ≡ None
+  item-none bytes align members i m h e none =
+      ap within_limit (member_at bytes align members i m h e)
+      ∙ member-none of is_union bytes align (member_of m) (map member_of (drop (i + 1) members)) none
+
+  pub item-some : (bytes align : ℕ) (members : List Member) (i : ℕ) (m : Member) (l : Layout) →
+      i < length members → m ≡ get_or members i m → Some l ≡ within_limit (layout_by of (type_of m.of)) →
+      laid_from of is_union bytes align (map member_of (drop i members))
+      ≡ laid_from of is_union (taken_after is_union bytes l) (max align l.align)
+      (map member_of (drop (i + 1) members))
+  item-some bytes align members i m l h e some =
+      member_at bytes align members i m h e
+      ∙ member-some of is_union bytes align (member_of m) (map member_of (drop (i + 1) members)) l some
+
+------ type_layout
+
+pub around_all : (compounds : ℕ → Option Layout) (t : PlainType) (of : Option Layout) →
+    of ≡ within_limit (option_and_then compounds (innermost t)) →
+    within_limit (layout_by (λ _. of) t) ≡ within_limit (layout_by compounds t)
+around_all compounds t of e =
+    ap (λ o. within_limit (layout_by (λ _. o) t)) e
+    ∙ (around_within (option_and_then compounds (innermost t)) t
+    ∙ ap within_limit (sym (around compounds t)))

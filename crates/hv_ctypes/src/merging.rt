@@ -1,4 +1,4 @@
-ghost use Rattle.std.specs.Prelude.{◌≡◌, ◌++◌, ◌∷◌, [], length, IsTrue, IfOk, OnOk, if◌then◌else◌};
+ghost use Rattle.std.specs.Prelude.{◌≡◌, ◌++◌, ◌∷◌, [], false, IsTrue, IfOk, OnOk};
 ghost use Rattle.hv_ctree.specs.types.Erasure.{type_of, shape_of, parameters_of};
 ghost use Rattle.hv_ctree.specs.types.Compatible as compatibility;
 ghost use Rattle.hv_ctree.specs.types.Composite as types;
@@ -55,8 +55,12 @@ fn merged_shape(alloc: Global, a: &Shape, b: &Shape) -> Result<Shape, Memory>
         Shape::Function { result: of, params, variadic } => match b {
             Shape::Function { result: of_b, params: params_b, .. } => {
                 let of = Rc::new(alloc, merged(alloc, of, of_b)?)?;
-                let merged = merged_parameters(alloc, params, params_b)?;
-                Ok(Shape::Function { result: of, params: merged, variadic: *variadic })
+                let both = merged_parameters(alloc, params, params_b)?;
+                Ok(Shape::Function {
+                    result: of,
+                    params: both,
+                    variadic: *variadic,
+                })
             }
             _ => Ok(copied_shape(alloc, a)?),
         },
@@ -82,20 +86,31 @@ fn merged_parameters(
     a: &List<CType>,
     b: &List<CType>,
 ) -> Result<List<CType>, Memory>
-    requires { length a.now ≡ length b.now }
     ensures {
         IfOk result
             (λ ts. parameters_of ts
                 ≡ types.composite_parameters (parameters_of a.now) (parameters_of b.now))
     }
 {
-    let others = b.as_slice();
+    let a = a.as_slice();
+    let b = b.as_slice();
     let mut params = List::new(alloc);
-    for (i, t) in a.as_slice().iter().enumerate() {
-        let shape = merged_shape(alloc, &t.shape, &others[i].shape)?;
-        push_type(&mut params, CType { constant: false, shape })?;
+    let count = a.len().min(b.len());
+    for i in 0..count {
+        let shape = merged_shape(alloc, &a[i].shape, &b[i].shape)?;
+        push_shape(&mut params, shape)?;
     }
     Ok(params)
+}
+
+// Adds an unqualified type at the end.
+fn push_shape(list: &mut List<CType>, shape: Shape) -> Result<(), Memory>
+    ensures ok {
+        OnOk result
+            (list.new ≡ list.old ++ record { constant = false; shape = shape } ∷ [])
+    }
+{
+    push_type(list, CType { constant: false, shape })
 }
 
 // Adds a type at the end.
@@ -145,7 +160,8 @@ fn copied_parameters(alloc: Global, params: &List<CType>) -> Result<List<CType>,
 {
     let mut copy = List::new(alloc);
     for t in params.as_slice() {
-        push_type(&mut copy, copied(alloc, t)?)?;
+        let one = copied(alloc, t)?;
+        push_type(&mut copy, one)?;
     }
     Ok(copy)
 }

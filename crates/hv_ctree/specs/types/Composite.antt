@@ -1,6 +1,6 @@
 -- The composite type of two compatible types (6.2.7 paragraph 3). Of an enumeration and `int` it is the first.
 use Rattle.std.specs.Prelude.{ℕ, false, Option, None, Some}
-use Rattle.hv_ctree.specs.types.Plain.{PlainType, plain, PlainShape, pointer, array, function, Parameters, parameter}
+use Rattle.hv_ctree.specs.types.Plain.{PlainType, plain, PlainShape, pointer, array, function, Parameters, no_parameter, parameter}
 
 -- the length that is known of two
 abbrev pub known_length : Option ℕ → Option ℕ → Option ℕ
@@ -18,8 +18,8 @@ abbrev mutual
       function (composite r q) (composite_parameters ps us) variadic
   composite_shape s u = s
 
-  -- parameters one by one, each without its qualifier
+  -- parameters one by one, each without its qualifier; compatible functions have as many
   pub composite_parameters : Parameters → Parameters → Parameters
   composite_parameters (parameter (plain constant shape) ts) (parameter (plain constant' shape') us) =
       parameter (plain false (composite_shape shape shape')) (composite_parameters ts us)
-  composite_parameters ps us = ps
+  composite_parameters ps us = no_parameter

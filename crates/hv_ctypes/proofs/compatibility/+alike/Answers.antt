@@ -12,14 +12,3 @@ parameters_alike-returns-then-len-others t c =
         λ e. c.if-len-others.true (c.len.ensures ∙ (e ∙ sym (ap length c.as_slice-others.ensures))) in
     sym (unequal_alike c.args.a.now c.args.b.now unequal)
 
-pub shapes_alike-returns-then-alike : goal.shapes_alike-returns-then-alike
-shapes_alike-returns-then-alike t c =
-    let a = c.in-Function in
-    let b = c.in-Function-b in
-    let left : shape_of c.args.a.now ≡ function (type_of a.of.value) (parameters_of a.params) a.variadic =
-        ap shape_of a.is ∙ ap (λ ps. function (type_of a.of.value) ps a.variadic) (row_hidden a.params) in
-    let right : shape_of c.args.b.now ≡ function (type_of b.of_b.value) (parameters_of b.params_b) b.variadic_b =
-        ap shape_of b.is ∙ ap (λ ps. function (type_of b.of_b.value) ps b.variadic_b) (row_hidden b.params_b) in
-    let results : types.alike (type_of a.of.value) (type_of b.of_b.value) ≡ true =
-        search (rules, c.if-alike.ensures, c.if-alike.true) in
-    rw (left, right, results) c.signatures_agree.ensures
