@@ -27,8 +27,8 @@ pub within-some : (o : Option Layout) (l : Layout) → Some l ≡ within_limit o
 within-some None l e = sym e
 within-some (Some k) l e =
     elim (leb_tells k.size MOST_OBJECT_BYTES) [
-      inl (is, h) ↦ sym (e ∙ ap (λ b. cond b (Some k) None) is)
-    | inr (isnt, h) ↦ absurd (none_is_no_some l (e ∙ ap (λ b. cond b (Some k) None) isnt))
+      | inl (is, h) ↦ sym (e ∙ ap (λ b. cond b (Some k) None) is)
+      | inr (isnt, h) ↦ absurd (none_is_no_some l (e ∙ ap (λ b. cond b (Some k) None) isnt))
     ]
 
 -- and else there is none, or it is beyond
@@ -37,16 +37,16 @@ pub within-none : (o : Option Layout) → None ≡ within_limit o →
 within-none None e = inl refl
 within-none (Some k) e =
     elim (leb_tells k.size MOST_OBJECT_BYTES) [
-      inl (is, h) ↦ absurd (none_is_no_some k (sym (e ∙ ap (λ b. cond b (Some k) None) is)))
-    | inr (isnt, h) ↦ inr (k, refl, h)
+      | inl (is, h) ↦ absurd (none_is_no_some k (sym (e ∙ ap (λ b. cond b (Some k) None) is)))
+      | inr (isnt, h) ↦ inr (k, refl, h)
     ]
 
 pub within_twice : (o : Option Layout) → within_limit (within_limit o) ≡ within_limit o
 within_twice None = refl
 within_twice (Some k) =
     elim (leb_tells k.size MOST_OBJECT_BYTES) [
-      inl (is, h) ↦ rw (is, is) refl
-    | inr (isnt, h) ↦ rw isnt refl
+      | inl (is, h) ↦ rw (is, is) refl
+      | inr (isnt, h) ↦ rw isnt refl
     ]
 
 ------ layout_around
@@ -58,9 +58,9 @@ as_large (suc n) size some h = omega arith
 many_beyond : (n : ℕ) (l : Layout) → MOST_OBJECT_BYTES < l.size → within_limit (repeated (Some n) (Some l)) ≡ None
 many_beyond n l h =
     elim (eqb_tells n 0) [
-      inl (is, e) ↦ rw is refl
-    | inr (isnt, some) ↦
-        rw isnt (beyond (record { size = n * l.size; align = l.align }) (as_large n l.size some h))
+      | inl (is, e) ↦ rw is refl
+      | inr (isnt, some) ↦
+          rw isnt (beyond (record { size = n * l.size; align = l.align }) (as_large n l.size some h))
     ]
 
 -- an array of elements beyond the limit is beyond it
@@ -70,8 +70,8 @@ repeated_within None element = refl
 repeated_within (Some n) None = refl
 repeated_within (Some n) (Some l) =
     elim (leb_tells l.size MOST_OBJECT_BYTES) [
-      inl (is, h) ↦ rw is refl
-    | inr (isnt, h) ↦ rw isnt (sym (many_beyond n l h))
+      | inl (is, h) ↦ rw is refl
+      | inr (isnt, h) ↦ rw isnt (sym (many_beyond n l h))
     ]
 
 -- the layouts of structures and unions are asked for at most one of them
@@ -146,9 +146,9 @@ module _ (of : ℕ → Option Layout) (is_union : Bool) where
       within_limit (laid_from of is_union bytes align (m ∷ ms)) ≡ None
   member-none bytes align m ms e =
       elim (within-none (layout_by of m.type) e) [
-        inl none ↦ rw none refl
-      | inr (l, some, large) ↦
-          rw some (too_large (taken_after is_union bytes l) (max align l.align) ms (over is_union bytes l large))
+        | inl none ↦ rw none refl
+        | inr (l, some, large) ↦
+            rw some (too_large (taken_after is_union bytes l) (max align l.align) ms (over is_union bytes l large))
       ]
 
   pub member-some : (bytes align : ℕ) (m : PlainMember) (ms : List PlainMember) (l : Layout) →

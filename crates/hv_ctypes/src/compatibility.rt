@@ -19,9 +19,13 @@ fn shapes_compatible(a: &Shape, b: &Shape) -> bool
     ensures { result ≡ types.shapes_compatible (shape_of a.now) (shape_of b.now) }
 {
     match (a, b) {
-        (Shape::Array { of, length }, Shape::Array { of: of_b, length: length_b }) => {
-            lengths_agree(*length, *length_b) && alike(of, of_b)
-        }
+        (
+            Shape::Array { of, length },
+            Shape::Array {
+                of: of_b,
+                length: length_b,
+            },
+        ) => { lengths_agree(*length, *length_b) && alike(of, of_b) }
         _ => shapes_alike(a, b),
     }
 }
@@ -72,13 +76,22 @@ fn shapes_alike(a: &Shape, b: &Shape) -> bool
             _ => false,
         },
         Shape::Array { of, length } => match b {
-            Shape::Array { of: of_b, length: length_b } => {
-                same_length(*length, *length_b) && alike(of, of_b)
-            }
+            Shape::Array {
+                of: of_b,
+                length: length_b,
+            } => { same_length(*length, *length_b) && alike(of, of_b) }
             _ => false,
         },
-        Shape::Function { result: of, params, variadic } => match b {
-            Shape::Function { result: of_b, params: params_b, variadic: variadic_b } => {
+        Shape::Function {
+            result: of,
+            params,
+            variadic,
+        } => match b {
+            Shape::Function {
+                result: of_b,
+                params: params_b,
+                variadic: variadic_b,
+            } => {
                 alike(of, of_b) && *variadic == *variadic_b && parameters_alike(params, params_b)
             }
             _ => false,

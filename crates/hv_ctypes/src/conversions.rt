@@ -27,23 +27,15 @@ pub fn convert_to_kind(value: u64, kind: IntKind) -> u64
     ensures within { IsTrue (has kind result) }
 {
     match kind {
-        IntKind::Boolean => {
-            if value == 0 {
-                0
-            } else {
-                1
-            }
-        }
+        IntKind::Boolean => { if value == 0 { 0 } else { 1 } }
         IntKind::Char | IntKind::SignedChar => sign_extended(value % 0x100, 0x100),
         IntKind::UnsignedChar => value % 0x100,
         IntKind::Short => sign_extended(value % 0x1_0000, 0x1_0000),
         IntKind::UnsignedShort => value % 0x1_0000,
         IntKind::Int => sign_extended(value % 0x1_0000_0000, 0x1_0000_0000),
         IntKind::UnsignedInt => value % 0x1_0000_0000,
-        IntKind::Long
-        | IntKind::UnsignedLong
-        | IntKind::LongLong
-        | IntKind::UnsignedLongLong => value,
+        IntKind::Long | IntKind::UnsignedLong | IntKind::LongLong | IntKind::UnsignedLongLong =>
+            value,
     }
 }
 
@@ -51,12 +43,10 @@ pub fn convert_to_kind(value: u64, kind: IntKind) -> u64
 fn sign_extended(remainder: u64, count: u64) -> u64
     requires below { remainder < count }
     requires small { count ≤ 2 ^ 32 }
-    ensures {
-        result
+    ensures { result
         ≡ (if nat_lt remainder (count / 2)
         then remainder
-        else remainder + (2 ^ 64 - count))
-    }
+        else remainder + (2 ^ 64 - count)) }
 {
     if remainder < count / 2 {
         remainder
@@ -69,9 +59,7 @@ fn sign_extended(remainder: u64, count: u64) -> u64
 pub fn convert(value: u64, to: &CType) -> u64
     requires { IsSome (kind_in (type_of to.now)) }
     ensures value { IfSome (kind_in (type_of to.now)) (λ kind. result ≡ converted kind value) }
-    ensures keeps {
-        IfSome (kind_in (type_of to.now)) (λ kind. IsTrue (has kind value) → result ≡ value)
-    }
+    ensures keeps { IfSome (kind_in (type_of to.now)) (λ kind. IsTrue (has kind value) → result ≡ value) }
     ensures within { IfSome (kind_in (type_of to.now)) (λ kind. IsTrue (has kind result)) }
 {
     match integer_kind(to) {

@@ -13,9 +13,7 @@ use hv_ctree::{CType, IntKind, Layout, Member, Shape, Types};
 /// The size and the alignment of a type (ISO/IEC 9899:1999, 6.7.2.1), or `None` where it is incomplete, a
 /// function, or larger than the limit on objects.
 pub fn layout(types: &Types, t: &CType) -> Option<Layout>
-    ensures value {
-        result ≡ within_limit (layouts.layout (compounds_of types.now) (type_of t.now))
-    }
+    ensures value { result ≡ within_limit (layouts.layout (compounds_of types.now) (type_of t.now)) }
     ensures aligned { IfSome result (λ l. IsTrue (is_alignment l.align)) }
 {
     type_layout(types, t, types.compounds.len())
@@ -23,13 +21,9 @@ pub fn layout(types: &Types, t: &CType) -> Option<Layout>
 
 /// The bytes of a complete type.
 pub fn size_of(types: &Types, t: &CType) -> u64
-    requires {
-        IsSomeAnd (layouts.layout (compounds_of types.now) (type_of t.now))
-            (λ l. l.size ≤ MOST_OBJECT_BYTES)
-    }
-    ensures value {
-        IfSome (layouts.layout (compounds_of types.now) (type_of t.now)) (λ l. result ≡ l.size)
-    }
+    requires { IsSomeAnd (layouts.layout (compounds_of types.now) (type_of t.now))
+        (λ l. l.size ≤ MOST_OBJECT_BYTES) }
+    ensures value { IfSome (layouts.layout (compounds_of types.now) (type_of t.now)) (λ l. result ≡ l.size) }
 {
     match layout(types, t) {
         Some(layout) => layout.size,
@@ -39,13 +33,9 @@ pub fn size_of(types: &Types, t: &CType) -> u64
 
 /// The alignment of a complete type.
 pub fn align_of(types: &Types, t: &CType) -> u64
-    requires {
-        IsSomeAnd (layouts.layout (compounds_of types.now) (type_of t.now))
-            (λ l. l.size ≤ MOST_OBJECT_BYTES)
-    }
-    ensures value {
-        IfSome (layouts.layout (compounds_of types.now) (type_of t.now)) (λ l. result ≡ l.align)
-    }
+    requires { IsSomeAnd (layouts.layout (compounds_of types.now) (type_of t.now))
+        (λ l. l.size ≤ MOST_OBJECT_BYTES) }
+    ensures value { IfSome (layouts.layout (compounds_of types.now) (type_of t.now)) (λ l. result ≡ l.align) }
 {
     match layout(types, t) {
         Some(layout) => layout.align,
@@ -56,11 +46,9 @@ pub fn align_of(types: &Types, t: &CType) -> u64
 // The layout of a type in which at most `depth` structures and unions stand within one another.
 #[cycle(layout)]
 fn type_layout(types: &Types, t: &CType, depth: usize) -> Option<Layout>
-    ensures value {
-        result
+    ensures value { result
         ≡ within_limit
-            (layout_by (layouts.compound_layout (compounds_of types.now) depth) (type_of t.now))
-    }
+        (layout_by (layouts.compound_layout (compounds_of types.now) depth) (type_of t.now)) }
     ensures aligned { IfSome result (λ l. IsTrue (is_alignment l.align)) }
 {
     let of = match innermost(t) {
@@ -73,9 +61,7 @@ fn type_layout(types: &Types, t: &CType, depth: usize) -> Option<Layout>
 // The layout of the structure or union with this number.
 #[cycle(layout)]
 fn compound_layout(types: &Types, number: u64, depth: usize) -> Option<Layout>
-    ensures value {
-        result ≡ within_limit (layouts.compound_layout (compounds_of types.now) depth number)
-    }
+    ensures value { result ≡ within_limit (layouts.compound_layout (compounds_of types.now) depth number) }
     ensures aligned { IfSome result (λ l. IsTrue (is_alignment l.align)) }
 {
     if depth == 0 {
@@ -94,13 +80,11 @@ fn members_layout(
     members: &List<Member>,
     depth: usize,
 ) -> Option<Layout>
-    ensures value {
-        result
+    ensures value { result
         ≡ within_limit
-            (option_and_then (laid_out is_union)
-                (member_layouts (layouts.compound_layout (compounds_of types.now) depth)
-                    (map member_of members.now)))
-    }
+        (option_and_then (laid_out is_union)
+        (member_layouts (layouts.compound_layout (compounds_of types.now) depth)
+        (map member_of members.now))) }
     ensures aligned { IfSome result (λ l. IsTrue (is_alignment l.align)) }
 {
     if members.len() == 0 {
@@ -146,10 +130,8 @@ fn larger_alignment(a: u64, b: u64) -> u64
 fn padded(taken: u64, align: u64) -> Option<Layout>
     requires taken { taken ≤ MOST_OBJECT_BYTES }
     requires align { IsTrue (is_alignment align) }
-    ensures value {
-        result
-        ≡ within_limit (Some (record { size = layouts.rounded_up taken align; align = align }))
-    }
+    ensures value { result
+        ≡ within_limit (Some (record { size = layouts.rounded_up taken align; align = align })) }
     ensures aligned { IfSome result (λ l. IsTrue (is_alignment l.align)) }
 {
     let size = rounded_up(taken, align);
@@ -197,7 +179,10 @@ fn layout_around(t: &CType, of: &Option<Layout>) -> Option<Layout>
         Shape::Enumeration { .. } => Some(scalar(4)),
         Shape::Pointer(_) => Some(scalar(8)),
         Shape::Compound { .. } => *of,
-        Shape::Array { of: element, length } => repeated(*length, layout_around(element, of)),
+        Shape::Array {
+            of: element,
+            length,
+        } => repeated(*length, layout_around(element, of)),
     }
 }
 
@@ -213,10 +198,8 @@ fn scalar(bytes: u64) -> Layout
 // An array of `count` such elements.
 fn repeated(count: Option<u64>, element: Option<Layout>) -> Option<Layout>
     ensures value { result ≡ within_limit (layouts.repeated count element) }
-    ensures aligned {
-        IfSome element (λ e. IsTrue (is_alignment e.align))
-        → IfSome result (λ l. IsTrue (is_alignment l.align))
-    }
+    ensures aligned { IfSome element (λ e. IsTrue (is_alignment e.align))
+        → IfSome result (λ l. IsTrue (is_alignment l.align)) }
 {
     let count = count?;
     let element = element?;
@@ -241,9 +224,6 @@ pub fn size_of_kind(kind: IntKind) -> u64
         IntKind::Boolean | IntKind::Char | IntKind::SignedChar | IntKind::UnsignedChar => 1,
         IntKind::Short | IntKind::UnsignedShort => 2,
         IntKind::Int | IntKind::UnsignedInt => 4,
-        IntKind::Long
-        | IntKind::UnsignedLong
-        | IntKind::LongLong
-        | IntKind::UnsignedLongLong => 8,
+        IntKind::Long | IntKind::UnsignedLong | IntKind::LongLong | IntKind::UnsignedLongLong => 8,
     }
 }

@@ -7,9 +7,9 @@ mod conversions;
 mod layouts;
 mod merging;
 
+pub use arithmetic::usual;
 pub use compatibility::compatible;
 pub use conversions::{convert, convert_to_kind, integer_kind};
 pub use hv_ctree::{CType, IntKind, Layout, Types};
 pub use layouts::{align_of, layout, size_of, size_of_kind};
 pub use merging::{composite, copied};
-pub use arithmetic::usual;

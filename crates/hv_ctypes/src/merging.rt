@@ -12,9 +12,7 @@ use std::rc::Rc;
 /// enumeration and `int` it is the first.
 pub fn composite(alloc: Global, _types: &Types, a: &CType, b: &CType) -> Result<CType, Memory>
     requires { IsTrue (compatibility.compatible (type_of a.now) (type_of b.now)) }
-    ensures value {
-        IfOk result (λ t. type_of t ≡ types.composite (type_of a.now) (type_of b.now))
-    }
+    ensures value { IfOk result (λ t. type_of t ≡ types.composite (type_of a.now) (type_of b.now)) }
 {
     let merged = merged(alloc, a, b)?;
     Ok(merged)
@@ -33,9 +31,7 @@ fn merged(alloc: Global, a: &CType, b: &CType) -> Result<CType, Memory>
 
 #[cycle(merged)]
 fn merged_shape(alloc: Global, a: &Shape, b: &Shape) -> Result<Shape, Memory>
-    ensures {
-        IfOk result (λ s. shape_of s ≡ types.composite_shape (shape_of a.now) (shape_of b.now))
-    }
+    ensures { IfOk result (λ s. shape_of s ≡ types.composite_shape (shape_of a.now) (shape_of b.now)) }
 {
     match a {
         Shape::Pointer(to) => match b {
@@ -46,14 +42,28 @@ fn merged_shape(alloc: Global, a: &Shape, b: &Shape) -> Result<Shape, Memory>
             _ => Ok(copied_shape(alloc, a)?),
         },
         Shape::Array { of, length } => match b {
-            Shape::Array { of: of_b, length: length_b } => {
+            Shape::Array {
+                of: of_b,
+                length: length_b,
+            } => {
                 let of = Rc::new(alloc, merged(alloc, of, of_b)?)?;
-                Ok(Shape::Array { of, length: known_length(*length, *length_b) })
+                Ok(Shape::Array {
+                    of,
+                    length: known_length(*length, *length_b),
+                })
             }
             _ => Ok(copied_shape(alloc, a)?),
         },
-        Shape::Function { result: of, params, variadic } => match b {
-            Shape::Function { result: of_b, params: params_b, .. } => {
+        Shape::Function {
+            result: of,
+            params,
+            variadic,
+        } => match b {
+            Shape::Function {
+                result: of_b,
+                params: params_b,
+                ..
+            } => {
                 let of = Rc::new(alloc, merged(alloc, of, of_b)?)?;
                 let both = merged_parameters(alloc, params, params_b)?;
                 Ok(Shape::Function {
@@ -64,10 +74,9 @@ fn merged_shape(alloc: Global, a: &Shape, b: &Shape) -> Result<Shape, Memory>
             }
             _ => Ok(copied_shape(alloc, a)?),
         },
-        Shape::Void
-        | Shape::Integer(_)
-        | Shape::Enumeration { .. }
-        | Shape::Compound { .. } => Ok(copied_shape(alloc, a)?),
+        Shape::Void | Shape::Integer(_) | Shape::Enumeration { .. } | Shape::Compound { .. } => Ok(
+            copied_shape(alloc, a)?,
+        ),
     }
 }
 
@@ -81,16 +90,10 @@ fn known_length(a: Option<u64>, b: Option<u64>) -> Option<u64>
 }
 
 #[cycle(merged)]
-fn merged_parameters(
-    alloc: Global,
-    a: &List<CType>,
-    b: &List<CType>,
-) -> Result<List<CType>, Memory>
-    ensures {
-        IfOk result
-            (λ ts. parameters_of ts
-                ≡ types.composite_parameters (parameters_of a.now) (parameters_of b.now))
-    }
+fn merged_parameters(alloc: Global, a: &List<CType>, b: &List<CType>) -> Result<List<CType>, Memory>
+    ensures { IfOk result
+        (λ ts. parameters_of ts
+        ≡ types.composite_parameters (parameters_of a.now) (parameters_of b.now)) }
 {
     let a = a.as_slice();
     let b = b.as_slice();
@@ -105,12 +108,16 @@ fn merged_parameters(
 
 // Adds an unqualified type at the end.
 fn push_shape(list: &mut List<CType>, shape: Shape) -> Result<(), Memory>
-    ensures ok {
-        OnOk result
-            (list.new ≡ list.old ++ record { constant = false; shape = shape } ∷ [])
-    }
+    ensures ok { OnOk result
+        (list.new ≡ list.old ++ record { constant = false; shape = shape } ∷ []) }
 {
-    push_type(list, CType { constant: false, shape })
+    push_type(
+        list,
+        CType {
+            constant: false,
+            shape,
+        },
+    )
 }
 
 // Adds a type at the end.
@@ -145,11 +152,22 @@ fn copied_shape(alloc: Global, shape: &Shape) -> Result<Shape, Memory>
         Shape::Enumeration { number } => Ok(Shape::Enumeration { number: *number }),
         Shape::Compound { number } => Ok(Shape::Compound { number: *number }),
         Shape::Pointer(to) => Ok(Shape::Pointer(to.clone()?)),
-        Shape::Array { of, length } => Ok(Shape::Array { of: of.clone()?, length: *length }),
-        Shape::Function { result: of, params, variadic } => {
+        Shape::Array { of, length } => Ok(Shape::Array {
+            of: of.clone()?,
+            length: *length,
+        }),
+        Shape::Function {
+            result: of,
+            params,
+            variadic,
+        } => {
             let of = of.clone()?;
             let params = copied_parameters(alloc, params)?;
-            Ok(Shape::Function { result: of, params, variadic: *variadic })
+            Ok(Shape::Function {
+                result: of,
+                params,
+                variadic: *variadic,
+            })
         }
     }
 }

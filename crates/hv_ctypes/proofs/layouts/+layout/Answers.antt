@@ -14,7 +14,7 @@ members_layout-loop-member-init t c =
     record {
       same = laid_members of c.args.is_union c.args.members.now some;
       within = omega arith;
-      aligned = search rules
+      aligned = search rules;
     }
 
 pub members_layout-returns-in_err-layout-clause-value : goal.members_layout-returns-in_err-layout-clause-value
@@ -40,7 +40,7 @@ members_layout-returns-then-taken-gt-MOST_OBJECT_BYTES-clause-value t c =
     let is : m ≡ get_or c.args.members.now i m = search rules in
     let some : Some l ≡ within_limit (layout_by of (type_of m.of)) = search rules in
     let large : 1073741824 < taken_after c.args.is_union c.loop-member.taken l =
-        rw (← c.taken_after-taken.ensures) c.if-taken-gt-MOST_OBJECT_BYTES.true in
+    rw (← c.taken_after-taken.ensures) c.if-taken-gt-MOST_OBJECT_BYTES.true in
     sym (ap within_limit (item-some of c.args.is_union c.loop-member.taken c.loop-member.align c.args.members.now i m l inside is some)
     ∙ too_large of c.args.is_union (taken_after c.args.is_union c.loop-member.taken l) (max c.loop-member.align l.align)
     (map member_of (drop (i + 1) c.args.members.now)) large)
@@ -58,13 +58,13 @@ members_layout-loop-member-preserved t c =
     let some : Some l ≡ within_limit (layout_by of (type_of m.of)) = search rules in
     record {
       same =
-        ap (λ n. within_limit (laid_from of c.args.is_union n c.larger_alignment-align.result rest)) c.taken_after-taken.ensures
-        ∙ (ap (λ n. within_limit (laid_from of c.args.is_union (taken_after c.args.is_union c.loop-member.taken l) n rest))
-        c.larger_alignment-align.ensures.value
-        ∙ (sym (ap within_limit (item-some of c.args.is_union c.loop-member.taken c.loop-member.align c.args.members.now i m l inside is some))
-        ∙ c.loop-member.invariant.same));
+          ap (λ n. within_limit (laid_from of c.args.is_union n c.larger_alignment-align.result rest)) c.taken_after-taken.ensures
+          ∙ (ap (λ n. within_limit (laid_from of c.args.is_union (taken_after c.args.is_union c.loop-member.taken l) n rest))
+          c.larger_alignment-align.ensures.value
+          ∙ (sym (ap within_limit (item-some of c.args.is_union c.loop-member.taken c.loop-member.align c.args.members.now i m l inside is some))
+          ∙ c.loop-member.invariant.same));
       within = omega arith;
-      aligned = c.larger_alignment-align.ensures.aligned
+      aligned = c.larger_alignment-align.ensures.aligned;
     }
 
 pub type_layout-returns-clause-value : goal.type_layout-returns-clause-value
@@ -72,6 +72,6 @@ type_layout-returns-clause-value t c =
     let of = compound_layout (compounds_of c.args.types.now) c.args.depth in
     let plain_type = type_of c.args.t.now in
     let e : c.match-innermost.of ≡ within_limit (option_and_then of (innermost plain_type)) =
-        elim c.match-innermost.branch [ type_layout-in-Some w ↦ search rules | type_layout-in-None w ↦ search rules ] in
+    elim c.match-innermost.branch [ type_layout-in-Some w ↦ search rules | type_layout-in-None w ↦ search rules ] in
     let r : c.layout_around.result ≡ within_limit (layout_by (λ _. c.match-innermost.of) plain_type) = search rules in
     r ∙ around_all of plain_type c.match-innermost.of e

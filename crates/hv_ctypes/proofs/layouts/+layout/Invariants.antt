@@ -19,12 +19,12 @@ abbrev pub invariant-members_layout-loop-member : goal.invariant-members_layout-
 invariant-members_layout-loop-member l =
     record {
       same :
-        within_limit
-        (laid_from (compound_layout (compounds_of l.types) l.depth) l.is_union l.taken l.align
-        (map member_of (drop l.member-index l.members)))
-        ≡ within_limit
-        (option_and_then (laid_out l.is_union)
-        (member_layouts (compound_layout (compounds_of l.types) l.depth) (map member_of l.members)));
+          within_limit
+          (laid_from (compound_layout (compounds_of l.types) l.depth) l.is_union l.taken l.align
+          (map member_of (drop l.member-index l.members)))
+          ≡ within_limit
+          (option_and_then (laid_out l.is_union)
+          (member_layouts (compound_layout (compounds_of l.types) l.depth) (map member_of l.members)));
       within : l.taken ≤ MOST_OBJECT_BYTES;
-      aligned : IsTrue (is_alignment l.align)
+      aligned : IsTrue (is_alignment l.align);
     }
