@@ -10,6 +10,7 @@ use Rattle.std.proofs.lemmas.List.{take_all}
 use Rattle.std.proofs.lemmas.List.Elements.{All-cons}
 use Rattle.std.proofs.lemmas.List.Splits.{slice_split_at, slice_split_none}
 use Rattle.std.proofs.lemmas.Slice.Eq.{bytes_eq-Decides}
+use Rattle.hv_base.proofs.Booleans.{and_left, and_right, or_left, or_right}
 use Rattle.hv_model.specs.Config.{ConfigReading, config, repeated, config_from, config_of, is_comma, names_on, pieces_of, text_of, IsConfigFault}
 use Rattle.hv_model.specs.working.Pieces.{rest_len}
 use Rattle.hv_model.specs.declared.faults.ConfigFault.{ConfigFault}
@@ -19,22 +20,6 @@ use Rattle.hv_model.specs.Name.{is_name, AllOptionNames, are_distinct}
 abbrev pub is_none : List (List ℕ) → Bool
 is_none [] = true
 is_none (_ ∷ _) = false
-
-and_left : (a b : Bool) → (a && b) ≡ true → a ≡ true
-and_left true b e = refl
-and_left false b e = e
-
-and_right : (a b : Bool) → (a && b) ≡ true → b ≡ true
-and_right true b e = e
-and_right false b e = cc
-
-or_left : (a b : Bool) → (a || b) ≡ false → a ≡ false
-or_left true b e = e
-or_left false b e = refl
-
-or_right : (a b : Bool) → (a || b) ≡ false → b ≡ false
-or_right true b e = cc
-or_right false b e = e
 
 -- texts that differ do so either way
 bytes_eq-flip : (xs ys : List ℕ) → bytes_eq xs ys ≡ false → bytes_eq ys xs ≡ false

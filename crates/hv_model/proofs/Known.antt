@@ -3,6 +3,7 @@ use Rattle.std.proofs.Common.{◌≡◌, ℕ, zero, suc, ◌+◌, Bool, true, fa
 use Rattle.std.specs.Prelude.{nat_lt}
 use Rattle.std.specs.List.{list_all}
 use Rattle.std.proofs.lemmas.List.Folds.{list_all-append}
+use Rattle.hv_base.proofs.Booleans.{and_true}
 use Rattle.hv_model.specs.Grammar.{Phrase, Derives, expr_or, expr_implies, or_and, or_either, and_not, and_both, not_negate, not_parens, not_name, place_of}
 use Rattle.hv_model.specs.working.Known.{is_known}
 use Rattle.hv_model.specs.working.Machine.{Machine, frame, want, negated_times, completed, step, or_done, expr_done, limited_step, is_allowed}
@@ -18,10 +19,6 @@ use Rattle.hv_model.specs.declared.parser.Frame.{Frame}
 about-append : (a b c : Bool) → (a && (b && c)) ≡ ((a && b) && c)
 about-append true b c = refl
 about-append false b c = refl
-
-and_true : (a : Bool) → (a && true) ≡ a
-and_true true = refl
-and_true false = refl
 
 pub is_about-derived : (n : ℕ) {names : List (List ℕ)} {phrase : Phrase} {ts : List Token} {r : Rule} → Derives names phrase ts r → is_about n r ≡ list_all (is_known n names) ts
 is_about-derived n (expr_or d) = is_about-derived n d

@@ -6,16 +6,9 @@ use Rattle.std.proofs.lemmas.Bool.Decides.{nat_tests}
 use Rattle.std.proofs.lemmas.List.Elements.{All-cons}
 use Rattle.std.proofs.lemmas.Str.{IsUtf8-from_ascii}
 use Rattle.std.proofs.lemmas.Str.Ascii.{IsAscii-from_all}
+use Rattle.hv_base.proofs.Booleans.{and_left, and_right}
 use Rattle.hv_base.specs.Ascii.{is_nondigit, is_identifier_byte}
 use Rattle.hv_model.specs.Name.{is_name, is_option_name}
-
-and_left : (a b : Bool) → (a && b) ≡ true → a ≡ true
-and_left true b e = refl
-and_left false b e = e
-
-and_right : (a b : Bool) → (a && b) ≡ true → b ≡ true
-and_right true b e = e
-and_right false b e = cc
 
 letter-small : (byte : ℕ) → is_nondigit byte ≡ true → byte < 128
 letter-small byte e = grind (arith, nat_tests)

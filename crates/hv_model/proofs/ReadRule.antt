@@ -2,6 +2,7 @@
 use Rattle.std.proofs.Common.{◌≡◌, ℕ, Bool, true, false, ◌&&◌, List, [], ◌∷◌, refl, sym, ◌∙◌, ap, length, ◌<◌, Option, Some, None}
 use Rattle.std.specs.Prelude.{option_and_then, IfSome, IfNone, IfOk, Result, Ok, Err}
 use Rattle.std.specs.List.{list_all}
+use Rattle.hv_base.proofs.Booleans.{and_true}
 use Rattle.hv_model.specs.Grammar.{IsRule}
 use Rattle.hv_model.specs.working.Known.{is_known}
 use Rattle.hv_model.specs.working.Machine.{Machine, IsSaid, IsTaken, limited_step, limited_run, start, finished, expr_done}
@@ -61,10 +62,6 @@ pub reading_some : (names : List (List ℕ)) (text rest : List ℕ) (parser : Pa
     → IsSaid (finished (machine_of parser)) code → IfSome code (λ steps. IsRule names (tokens text) (rule_of steps))
 reading_some names text rest parser None h none said = tt
 reading_some names text rest parser (Some steps) h none said = IsRule-from_run names (tokens text) (rule_of steps) (ends names text rest parser h none ∙ said)
-
-and_true : (a : Bool) → (a && true) ≡ a
-and_true true = refl
-and_true false = refl
 
 pub reading_about : (names : List (List ℕ)) (text rest : List ℕ) (parser : Parser) (code : Option (List Step)) → IsReading names text parser rest → tokens rest ≡ []
     → IsSaid (finished (machine_of parser)) code → IfSome code (λ steps. items_of steps ≡ expr_done parser.top (items_of parser.code))

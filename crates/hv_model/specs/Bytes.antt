@@ -11,11 +11,13 @@ is_empty (_ ∷ _) = false
 -- the text after its first blanks
 abbrev pub without_front_blanks : List ℕ → List ℕ
 without_front_blanks [] = []
-without_front_blanks (byte ∷ bytes) = cond (is_blank byte) (without_front_blanks bytes) (byte ∷ bytes)
+without_front_blanks (byte ∷ bytes) = cond (is_blank byte) (without_front_blanks bytes) (byte
+    ∷ bytes)
 
 -- one carriage return at a line's end is no part of it
 abbrev pub without_return : List ℕ → List ℕ
-without_return line = cond (slice_index line (length line - 1) == carriage_return) (take (length line - 1) line) line
+without_return line = cond
+    (slice_index line (length line - 1) == carriage_return) (take (length line - 1) line) line
 
 -- the lines, where a last part that is empty is none
 abbrev pub counted_lines : List (List ℕ) → List (List ℕ)

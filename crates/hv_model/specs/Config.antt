@@ -15,7 +15,8 @@ abbrev pub pieces_of : List ℕ → List (List ℕ)
 pieces_of [] = []
 pieces_of (byte ∷ bytes) = slice_split is_comma (byte ∷ bytes)
 
--- what a configuration's text is: a value for each option, or its first fault with the number of the piece
+-- what a configuration's text is: a value for each option, or its first fault with the number of
+-- the piece
 pub data ConfigReading : Type 0 where
   config : List Bool → ConfigReading
   unknown : ℕ → ConfigReading
@@ -26,7 +27,8 @@ abbrev pub config_from : List (List ℕ) → List Bool → ℕ → List (List �
 config_from names on n [] = config on
 config_from names on n (piece ∷ more) = elim (position (bytes_eq piece) names) [
   | None ↦ unknown n
-  | Some i ↦ cond (slice_index_or on i false) (repeated n) (config_from names (slice_set on i true) (n + 1) more)
+  | Some i ↦ cond (slice_index_or on i false) (repeated n) (config_from names
+      (slice_set on i true) (n + 1) more)
 ]
 
 -- what a text is, where the options have these names

@@ -7,7 +7,8 @@ use Rattle.hv_model.specs.Rule.{Features}
 use Rattle.hv_model.specs.Valid.{IsValidIn}
 
 -- what a store grows into has the same valid configurations at the same node
-pub valid-kept : (model : Features) (old new : Diagram) (valid : Cond) → Keeps old new → IsValidIn model old valid → IsValidIn model new valid
+pub valid-kept : (model : Features) (old new : Diagram) (valid : Cond) → Keeps old new
+    → IsValidIn model old valid → IsValidIn model new valid
 valid-kept model old new valid kept h =
     record {
       variables = kept.variables ∙ h.variables;

@@ -10,7 +10,8 @@ is_name [] = false
 is_name (byte ∷ bytes) = is_nondigit byte && list_all is_identifier_byte bytes
 
 -- SAME: reserved names
--- the keywords (6.4.1), then the names that preprocessing keeps for itself (6.10.1, 6.10.3, 6.10.8, 6.10.9) and
+-- the keywords (6.4.1), then the names that preprocessing keeps for itself (6.10.1, 6.10.3, 6.10.8,
+-- 6.10.9) and
 -- `__func__` (6.4.2.2)
 abbrev pub reserved_names : List (List ℕ)
 reserved_names =
@@ -31,7 +32,8 @@ is_reserved name = is_among name reserved_names
 
 -- a name that a model may give to an option
 abbrev pub is_option_name : List ℕ → Bool
-is_option_name name = is_name name && not (starts_with nat_eq name (codes "hv_")) && not (is_reserved name)
+is_option_name name = is_name name && not (starts_with nat_eq name (codes "hv_"))
+    && not (is_reserved name)
 
 -- each may be given to an option
 abbrev pub AllOptionNames : List (List ℕ) → Type 0

@@ -40,7 +40,8 @@ meets_all values rules = list_all (meets values) rules
 abbrev pub IsValid : Features → List Bool → Type 0
 IsValid model values = (length values ≡ length model.names) × IsTrue (meets_all values model.rules)
 
--- the least valid configuration: no valid one has, at the first option where they differ, that option off and this one on
+-- the least valid configuration: no valid one has, at the first option where they differ, that
+-- option off and this one on
 pub record IsLeastValid (model : Features) (values : List Bool) : Type 0 where
   pub valid : IsValid model values
   pub first : (others : List Bool) → IsValid model others → ¬ IsBefore others values

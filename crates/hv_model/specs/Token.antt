@@ -22,7 +22,8 @@ lengthened byte tokens = word (byte ∷ []) ∷ tokens
 
 -- a token of one byte
 abbrev pub single : ℕ → Token
-single byte = cond (byte == ascii.exclamation) negate (cond (byte == ascii.left_parenthesis) open_ (cond (byte == ascii.right_parenthesis) close other))
+single byte = cond (byte == ascii.exclamation) negate (cond (byte == ascii.left_parenthesis) open_
+    (cond (byte == ascii.right_parenthesis) close other))
 
 -- a token of two bytes, where they are one
 abbrev pub pair_of : ℕ → ℕ → Option Token
@@ -34,8 +35,11 @@ pair_of first second =
 -- the longest token first; blanks may stand between tokens
 abbrev pub tokens : List ℕ → List Token
 tokens [] = []
-tokens (byte ∷ []) = cond (is_blank byte) [] (cond (is_identifier_byte byte) (word (byte ∷ []) ∷ []) (single byte ∷ []))
+tokens (byte ∷ []) = cond (is_blank byte) [] (cond (is_identifier_byte byte) (word (byte ∷ [])
+    ∷ []) (single byte ∷ []))
 tokens (byte ∷ next ∷ bytes) =
     cond (is_blank byte) (tokens (next ∷ bytes))
-    (cond (is_identifier_byte byte) (cond (is_identifier_byte next) (lengthened byte (tokens (next ∷ bytes))) (word (byte ∷ []) ∷ tokens (next ∷ bytes)))
-    (option_map_or (λ token. token ∷ tokens bytes) (pair_of byte next) (single byte ∷ tokens (next ∷ bytes))))
+    (cond (is_identifier_byte byte) (cond (is_identifier_byte next) (lengthened byte (tokens (next
+        ∷ bytes))) (word (byte ∷ []) ∷ tokens (next ∷ bytes)))
+    (option_map_or (λ token. token ∷ tokens bytes) (pair_of byte next) (single byte ∷ tokens (next
+        ∷ bytes))))

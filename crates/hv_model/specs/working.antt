@@ -1,5 +1,7 @@
--- What private functions do; no exported clause cites these. Read Steps and Machine for how a rule is read in one pass
--- (Said, Parsed and Known connect them with the code), Codes for rules as plain data, Conds and Joined for diagrams,
+-- What private functions do; no exported clause cites these. Read Steps and Machine for how a rule
+-- is read in one pass
+-- (Said, Parsed and Known connect them with the code), Codes for rules as plain data, Conds and
+-- Joined for diagrams,
 -- ModelLine and Pieces for the parts of a text.
 pub mod Codes
 pub mod Conds

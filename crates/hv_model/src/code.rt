@@ -6,9 +6,10 @@ ghost use Rattle.hv_model.specs.Rule.{meets as meets_rule};
 ghost use Rattle.hv_model.specs.working.Steps.{fits as step_fits};
 
 use crate::conds::Conds;
-use crate::stack::Stack;
+use crate::truths::Truths;
+use hv_base::Memory;
 use hv_cond::{Cond, Store};
-use std::alloc::{AllocError, Global};
+use std::alloc::Global;
 
 /// A step of a rule's code. The premises of a chain of implications are gathered in one place, so
 /// that a long chain needs no deep stack.
@@ -60,7 +61,7 @@ impl Code {
     }
 
     /// Adds a step.
-    pub(crate) fn emit(&mut self, step: Step) -> Result<(), AllocError>
+    pub(crate) fn emit(&mut self, step: Step) -> Result<(), Memory>
         requires { length (after (items_of self.old) step) ≤ 1024 }
         ensures { OnOk result (self.new ≡ self.old ++ step ∷ []) }
     {
@@ -69,7 +70,7 @@ impl Code {
     }
 
     /// Adds a step that puts no option on the stack.
-    fn operate(&mut self, step: Step) -> Result<(), AllocError>
+    fn operate(&mut self, step: Step) -> Result<(), Memory>
         requires { IsOperator step }
         ensures { OnOk result (self.new ≡ self.old ++ step ∷ []) }
     {
@@ -79,9 +80,10 @@ impl Code {
     }
 
     /// Adds a step that puts no option on the stack, if it is wanted.
-    pub(crate) fn operate_if(&mut self, wanted: bool, step: Step) -> Result<(), AllocError>
+    pub(crate) fn operate_if(&mut self, wanted: bool, step: Step) -> Result<(), Memory>
         requires { IsOperator step }
-        ensures { OnOk result (items_of self.new ≡ (if wanted then after (items_of self.old) step else items_of self.old)) }
+        ensures { OnOk result (items_of self.new ≡ (if wanted then after (items_of self.old) step
+            else items_of self.old)) }
     {
         if wanted {
             self.operate(step)?;
@@ -90,7 +92,7 @@ impl Code {
     }
 
     /// Negates the value on the stack so many times.
-    pub(crate) fn negate(&mut self, times: u16) -> Result<(), AllocError>
+    pub(crate) fn negate(&mut self, times: u16) -> Result<(), Memory>
         ensures { OnOk result (items_of self.new ≡ negated_times times (items_of self.old)) }
     {
         for _ in 0..times {
@@ -107,11 +109,12 @@ impl Code {
     }
 
     /// The condition that the variables, which are the options, have values that meet the rule.
-    pub(crate) fn cond(&self, store: &mut Store) -> Result<Cond, AllocError>
+    pub(crate) fn cond(&self, store: &mut Store) -> Result<Cond, Memory>
         requires { list_all (step_fits store.old.variables) self.now ≡ true }
         ensures keeps { Keeps store.old store.new }
         ensures node { IfOk result (IsNode store.new) }
-        ensures meaning { IfOk result (λ c. (values : List Bool) → holds store.new c values ≡ meets_rule values (rule_of self.now)) }
+        ensures meaning { IfOk result (λ c. (values : List Bool) → holds store.new c values
+            ≡ meets_rule values (rule_of self.now)) }
     {
         let mut stack = Conds::new(*self.steps.allocator());
         for step in self.steps.iter() {
@@ -127,7 +130,7 @@ impl Code {
     pub(crate) fn meets(&self, values: &[bool]) -> bool
         ensures { result ≡ meets_rule values.now (rule_of self.now) }
     {
-        let mut stack = Stack::new();
+        let mut stack = Truths::new();
         for step in self.steps.iter() {
             stack.apply(*step, values);
         }

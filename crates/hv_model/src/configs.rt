@@ -38,8 +38,12 @@ fn take_piece(
     number: u64,
 ) -> Result<(), ConfigFault>
     requires { length on.old.items ≡ length model.now.names }
-    ensures taken { OnOk result ((more : List (List ℕ)) → config_from model.now.names on.old.items number (piece.now ∷ more) ≡ config_from model.now.names on.new.items (number + 1) more) }
-    ensures refused { IfErr result (λ fault. (more : List (List ℕ)) → IsConfigFault (config_from model.now.names on.old.items number (piece.now ∷ more)) fault) }
+    ensures taken { OnOk result ((more : List (List ℕ))
+        → config_from model.now.names on.old.items number (piece.now ∷ more)
+        ≡ config_from model.now.names on.new.items (number + 1) more) }
+    ensures refused { IfErr result (λ fault. (more : List (List ℕ))
+        → IsConfigFault (config_from model.now.names on.old.items number (piece.now
+        ∷ more)) fault) }
     ensures length { length on.new.items ≡ length on.old.items }
 {
     let Some(option) = model.position(piece) else {
@@ -77,8 +81,10 @@ fn all_off(alloc: Global, options: usize) -> Result<Vec<bool>, Memory>
 /// Turns the options on that the text names.
 fn read_pieces(model: &Model, on: &mut Vec<bool>, text: &[u8]) -> Result<(), ConfigFault>
     requires { length on.old.items ≡ length model.now.names }
-    ensures taken { OnOk result (config_from model.now.names on.old.items 0 (pieces_of text.now) ≡ said on.new.items) }
-    ensures refused { IfErr result (IsConfigFault (config_from model.now.names on.old.items 0 (pieces_of text.now))) }
+    ensures taken { OnOk result (config_from model.now.names on.old.items 0 (pieces_of text.now)
+        ≡ said on.new.items) }
+    ensures refused { IfErr result
+        (IsConfigFault (config_from model.now.names on.old.items 0 (pieces_of text.now))) }
     ensures length { OnOk result (length on.new.items ≡ length on.old.items) }
 {
     let mut rest = if text.is_empty() { None } else { Some(text) };
@@ -111,7 +117,8 @@ pub fn print_config(alloc: Global, model: &Model, config: &Config) -> Result<Tex
 
 /// Adds a name, after a comma unless it is the first.
 fn add_name(text: &mut Text, is_first: bool, name: &[u8]) -> Result<(), Memory>
-    ensures { OnOk result (text.new ≡ cond is_first (text.old ++ name.now) (text.old ++ 44 ∷ name.now)) }
+    ensures { OnOk result (text.new ≡ cond is_first (text.old ++ name.now) (text.old ++ 44
+        ∷ name.now)) }
 {
     if !is_first {
         text.extend_from_slice(b",")?;

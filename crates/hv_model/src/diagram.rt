@@ -40,7 +40,8 @@ impl ModelDiagram {
         })
     }
 
-    /// The least valid configuration, in the model's order and off before on, or `None` where none is valid.
+    /// The least valid configuration, in the model's order and off before on, or `None` where none
+    /// is valid.
     pub fn least(&self) -> Result<Option<Config>, Memory>
         requires { IsValidIn self.now.model self.now.store self.now.valid }
         ensures least { IfOk result
@@ -93,10 +94,11 @@ pub fn valid_cond(model: &Model, store: &mut Store) -> Result<Cond, Memory>
     let alloc = model.allocator();
     let order = order_of(alloc, model.rules(), model.options())?;
     let places = places_of(alloc, order.as_slice(), model.options())?;
-    Ok(joined(alloc, model.rules(), places.as_slice(), store)?)
+    joined(alloc, model.rules(), places.as_slice(), store)
 }
 
-/// The least valid configuration, in the model's order and off before on, or `None` where none is valid.
+/// The least valid configuration, in the model's order and off before on, or `None` where none is
+/// valid.
 pub fn least_valid(alloc: Global, model: &Model) -> Result<Option<Config>, Memory>
     ensures least { IfOk result
         (λ answer. IfSome answer (λ config. IsLeastValid model.now config.on)) }
@@ -107,7 +109,8 @@ pub fn least_valid(alloc: Global, model: &Model) -> Result<Option<Config>, Memor
     least_in(&store, valid)
 }
 
-/// Reads a model file to the model and the diagram of its valid configurations. The fault is the first one.
+/// Reads a model file to the model and the diagram of its valid configurations. The fault is the
+/// first one.
 pub fn read_diagram(alloc: Global, bytes: &[u8]) -> Result<ModelDiagram, ModelRefusal>
     ensures accepted { IfOk result (λ read. IsModelOf bytes.now read.model) }
     ensures valid { IfOk result (λ read. IsValidIn read.model read.store read.valid) }

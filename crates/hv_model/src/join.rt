@@ -7,8 +7,9 @@ ghost use Rattle.hv_model.specs.working.Joined.{code_in};
 ghost use Rattle.hv_model.specs.working.Steps.{AllFit, rule_of};
 
 use crate::code::{Code, Step};
+use hv_base::Memory;
 use hv_cond::{Cond, Store};
-use std::alloc::{AllocError, Global};
+use std::alloc::Global;
 
 /// A rule with its rank; the one of the lowest rank is joined first.
 #[derive(Clone, Copy)]
@@ -35,7 +36,7 @@ fn with_ranks<'a>(
     alloc: Global,
     rules: &'a [Code],
     places: &[u64],
-) -> Result<Vec<Ranked<'a>>, AllocError>
+) -> Result<Vec<Ranked<'a>>, Memory>
     ensures { IfOk result (λ found. map code_in found.items ≡ rules.now) }
 {
     let mut found = Vec::new(alloc);
@@ -48,7 +49,7 @@ fn with_ranks<'a>(
 
 /// The condition that the variables, which are the options, have values that meet each rule; the
 /// rules are joined in the order in which they stand.
-fn conjunction(rules: &[Ranked<'_>], store: &mut Store) -> Result<Cond, AllocError>
+fn conjunction(rules: &[Ranked<'_>], store: &mut Store) -> Result<Cond, Memory>
     requires { AllFit store.old.variables (map code_in rules.now) }
     ensures keeps { Keeps store.old store.new }
     ensures node { IfOk result (IsNode store.new) }
@@ -72,7 +73,7 @@ pub(crate) fn joined(
     rules: &[Code],
     places: &[u64],
     store: &mut Store,
-) -> Result<Cond, AllocError>
+) -> Result<Cond, Memory>
     requires { AllFit store.old.variables rules.now }
     ensures keeps { Keeps store.old store.new }
     ensures node { IfOk result (IsNode store.new) }

@@ -17,7 +17,7 @@ mod order;
 mod parser;
 mod rules;
 mod scan;
-mod stack;
+mod truths;
 mod walk;
 
 pub use configs::{print_config, read_config};

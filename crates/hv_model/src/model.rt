@@ -134,8 +134,12 @@ impl Model {
     /// Adds the option that the line of this number names.
     fn add_option(&mut self, name: &[u8], number: u64) -> Result<(), ModelRefusal>
         requires { IsTrue (option_name name.now) }
-        ensures added { OnOk result ((line : List ℕ) (more : List (List ℕ)) (o : Reading) → line_of line ≡ option_line name.now → Reads self.new (number + 1) more o → Reads self.old number (line ∷ more) o) }
-        ensures refused { IfErr result (λ refusal. (line : List ℕ) (more : List (List ℕ)) → line_of line ≡ option_line name.now → IsRefusalIn (Reads self.old number (line ∷ more)) refusal) }
+        ensures added { OnOk result ((line : List ℕ) (more : List (List ℕ)) (o : Reading)
+            → line_of line ≡ option_line name.now → Reads self.new (number + 1) more o
+            → Reads self.old number (line ∷ more) o) }
+        ensures refused { IfErr result (λ refusal. (line : List ℕ) (more : List (List ℕ))
+            → line_of line ≡ option_line name.now → IsRefusalIn (Reads self.old number (line
+            ∷ more)) refusal) }
     {
         if self.names.contains(name) {
             return Err(bad(number, ModelKind::Repeated));
@@ -151,10 +155,15 @@ impl Model {
 
     /// Adds a rule that the line of this number says.
     fn add_code(&mut self, code: Code, number: u64) -> Result<(), ModelRefusal>
-        requires { list_all (fits (length self.old.names)) code ≡ is_about (length self.old.names) (rule_of code) }
-        ensures added { OnOk result ((line : List ℕ) (ts : List Token) (more : List (List ℕ)) (o : Reading) → line_of line ≡ rule_line ts → IsRule self.old.names ts (rule_of code)
+        requires { list_all (fits (length self.old.names)) code
+            ≡ is_about (length self.old.names) (rule_of code) }
+        ensures added { OnOk result
+            ((line : List ℕ) (ts : List Token) (more : List (List ℕ)) (o : Reading) → line_of line
+            ≡ rule_line ts → IsRule self.old.names ts (rule_of code)
             → Reads self.new (number + 1) more o → Reads self.old number (line ∷ more) o) }
-        ensures refused { IfErr result (λ refusal. (line : List ℕ) (ts : List Token) (more : List (List ℕ)) → line_of line ≡ rule_line ts → IsRule self.old.names ts (rule_of code)
+        ensures refused { IfErr result
+            (λ refusal. (line : List ℕ) (ts : List Token) (more : List (List ℕ)) → line_of line
+            ≡ rule_line ts → IsRule self.old.names ts (rule_of code)
             → IsRefusalIn (Reads self.old number (line ∷ more)) refusal) }
     {
         if !code.fits(self.names.len()) {
@@ -168,8 +177,12 @@ impl Model {
 
     /// Adds the rule with this text, which the line of this number says.
     fn add_rule(&mut self, text: &[u8], number: u64) -> Result<(), ModelRefusal>
-        ensures added { OnOk result ((line : List ℕ) (more : List (List ℕ)) (o : Reading) → line_of line ≡ rule_line (tokens text.now) → Reads self.new (number + 1) more o → Reads self.old number (line ∷ more) o) }
-        ensures refused { IfErr result (λ refusal. (line : List ℕ) (more : List (List ℕ)) → line_of line ≡ rule_line (tokens text.now) → IsRefusalIn (Reads self.old number (line ∷ more)) refusal) }
+        ensures added { OnOk result ((line : List ℕ) (more : List (List ℕ)) (o : Reading)
+            → line_of line ≡ rule_line (tokens text.now) → Reads self.new (number + 1) more o
+            → Reads self.old number (line ∷ more) o) }
+        ensures refused { IfErr result (λ refusal. (line : List ℕ) (more : List (List ℕ))
+            → line_of line ≡ rule_line (tokens text.now) → IsRefusalIn (Reads self.old number (line
+            ∷ more)) refusal) }
     {
         match read_rule(*self.rules.allocator(), &self.names, text) {
             Ok(Some(code)) => self.add_code(code, number),
@@ -180,8 +193,10 @@ impl Model {
 
     /// Adds what the line of this number says.
     fn add_line(&mut self, line: &[u8], number: u64) -> Result<(), ModelRefusal>
-        ensures added { OnOk result ((more : List (List ℕ)) (o : Reading) → Reads self.new (number + 1) more o → Reads self.old number (line.now ∷ more) o) }
-        ensures refused { IfErr result (λ refusal. (more : List (List ℕ)) → IsRefusalIn (Reads self.old number (line.now ∷ more)) refusal) }
+        ensures added { OnOk result ((more : List (List ℕ)) (o : Reading)
+            → Reads self.new (number + 1) more o → Reads self.old number (line.now ∷ more) o) }
+        ensures refused { IfErr result (λ refusal. (more : List (List ℕ))
+            → IsRefusalIn (Reads self.old number (line.now ∷ more)) refusal) }
     {
         match read_line(line) {
             ModelLine::Nothing => Ok(()),
@@ -192,7 +207,8 @@ impl Model {
     }
 }
 
-/// Reads the lines of a model file, whether a configuration is valid or not. The fault is the first one.
+/// Reads the lines of a model file, whether a configuration is valid or not. The fault is the first
+/// one.
 pub(crate) fn read_lines(alloc: Global, bytes: &[u8]) -> Result<Model, ModelRefusal>
     ensures read { IfOk result (IsRead bytes.now) }
     ensures refused { IfErr result (IsRefusalOf bytes.now) }

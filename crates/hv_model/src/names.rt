@@ -23,7 +23,8 @@ impl std::marker::Model for Names {
 
     ghost view = { λ m. map string_bytes m.names.items };
 
-    ghost invariant = { λ m. AllOptionNames (map string_bytes m.names.items) × (length m.names.items ≤ 256) × IsTrue (are_distinct (map string_bytes m.names.items)) };
+    ghost invariant = { λ m. AllOptionNames (map string_bytes m.names.items)
+        × (length m.names.items ≤ 256) × IsTrue (are_distinct (map string_bytes m.names.items)) };
 }
 
 impl Names {

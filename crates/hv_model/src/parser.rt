@@ -1,14 +1,15 @@
 //! Reading rules.
-ghost use Rattle.std.specs.Prelude.{◌≡◌, ◌∷◌, ◌<◌, ◌≤◌, ◌+◌, true, false, None, length, reverse, if◌then◌else◌, IfOk, IfSome, OnOk};
+ghost use Rattle.std.specs.Prelude.{◌≡◌, ◌∷◌, ◌<◌, ◌≤◌, ◌+◌, true, false, None, length, if◌then◌else◌, IfOk, IfSome, OnOk};
 
 use crate::code::{Code, Step};
 use crate::name::is_name;
 use crate::names::Names;
 use crate::scan::Token;
-use std::alloc::{AllocError, Global};
+use hv_base::{Memory, Stack};
+use std::alloc::Global;
 
 /// How many parentheses may be open at once, and how many `!` may stand in a row.
-const MOST: u16 = 256;
+pub(crate) const MOST_NESTED: u16 = 256;
 
 /// What stands before an operand within its parentheses.
 #[derive(Clone, Copy, Debug, PartialEq, Eq)]
@@ -37,8 +38,8 @@ impl Frame {
 pub(crate) struct Parser {
     /// The code of what is read so far.
     pub(crate) code: Code,
-    /// What stands before the open parentheses, the innermost last.
-    pub(crate) outer: Vec<Frame>,
+    /// What stands before each open parenthesis.
+    pub(crate) outer: Stack<Frame>,
     /// What stands before the next operand, or around the last one, in the innermost parentheses.
     pub(crate) top: Frame,
     /// Whether an operand comes next.
@@ -57,15 +58,16 @@ impl Parser {
     {
         Parser {
             code: Code::new(alloc),
-            outer: Vec::new(alloc),
+            outer: Stack::new(alloc),
             top: Frame::EMPTY,
             wants: true,
         }
     }
 
     /// Ends an operand: what stands directly before it is applied to it.
-    fn complete(&mut self) -> Result<(), AllocError>
-        ensures { OnOk result (machine_of self.new ≡ completed self.old.top (reverse self.old.outer.items) (items_of self.old.code)) }
+    fn complete(&mut self) -> Result<(), Memory>
+        ensures { OnOk result (machine_of self.new
+            ≡ completed self.old.top self.old.outer (items_of self.old.code)) }
     {
         self.code.negate(self.top.negations)?;
         self.code.operate_if(self.top.conjunct, Step::And)?;
@@ -76,18 +78,21 @@ impl Parser {
     }
 
     /// Takes the option of this number as an operand.
-    fn operand(&mut self, place: u16) -> Result<(), AllocError>
+    fn operand(&mut self, place: u16) -> Result<(), Memory>
         requires { length (items_of self.old.code) < 1024 }
-        ensures { OnOk result (machine_of self.new ≡ completed self.old.top (reverse self.old.outer.items) (value (option place) ∷ items_of self.old.code)) }
+        ensures { OnOk result (machine_of self.new
+            ≡ completed self.old.top self.old.outer (value (option place)
+            ∷ items_of self.old.code)) }
     {
         self.code.emit(Step::Option(place))?;
         self.complete()
     }
 
     /// Takes an opening parenthesis.
-    fn open(&mut self) -> Result<(), AllocError>
+    fn open(&mut self) -> Result<(), Memory>
         requires { self.old.wants ≡ true }
-        ensures { OnOk result (machine_of self.new ≡ want (frame 0 false false false) (self.old.top ∷ reverse self.old.outer.items) (items_of self.old.code)) }
+        ensures { OnOk result (machine_of self.new ≡ want (frame 0 false false false) (self.old.top
+            ∷ self.old.outer) (items_of self.old.code)) }
     {
         self.outer.push(self.top)?;
         self.top = Frame::EMPTY;
@@ -95,34 +100,39 @@ impl Parser {
     }
 
     /// Takes a token where an operand is wanted, and says whether it may stand there.
-    fn take_wanting(&mut self, names: &Names, token: Token<'_>) -> Result<bool, AllocError>
+    fn take_wanting(&mut self, names: &Names, token: Token<'_>) -> Result<bool, Memory>
         requires wants { self.old.wants ≡ true }
         requires room { length (items_of self.old.code) < 1024 }
-        ensures { IfOk result (λ went. IsTaken (if is_allowed (machine_of self.old) (said token.entry)
-            then step_wanting names.now self.old.top (reverse self.old.outer.items) (items_of self.old.code) (said token.entry) else None) went (machine_of self.new)) }
+        ensures { IfOk result
+            (λ went. IsTaken (if is_allowed (machine_of self.old) (said token.entry)
+            then step_wanting names.now self.old.top self.old.outer (items_of self.old.code)
+                (said token.entry)
+            else None) went (machine_of self.new)) }
     {
         match token {
             Token::Word(name) if is_name(name) => self.operand(names.place(name))?,
-            Token::Negate if self.top.negations < MOST => self.top.negations += 1,
-            Token::Open if self.outer.len() < MOST as usize => self.open()?,
+            Token::Negate if self.top.negations < MOST_NESTED => self.top.negations += 1,
+            Token::Open if self.outer.len() < MOST_NESTED as usize => self.open()?,
             _ => return Ok(false),
         }
         Ok(true)
     }
 
     /// Ends the right side of `||`.
-    fn end_either(&mut self) -> Result<(), AllocError>
-        ensures items { OnOk result (items_of self.new.code ≡ or_done self.old.top (items_of self.old.code)) }
-        ensures outer { OnOk result (self.new.outer.items ≡ self.old.outer.items) }
+    fn end_either(&mut self) -> Result<(), Memory>
+        ensures items { OnOk result (items_of self.new.code
+            ≡ or_done self.old.top (items_of self.old.code)) }
+        ensures outer { OnOk result (self.new.outer ≡ self.old.outer) }
         ensures top { OnOk result (self.new.top ≡ self.old.top) }
     {
         self.code.operate_if(self.top.disjunct, Step::Or)
     }
 
     /// Ends the right side of `=>`.
-    fn end_expr(&mut self) -> Result<(), AllocError>
-        ensures items { OnOk result (items_of self.new.code ≡ expr_done self.old.top (items_of self.old.code)) }
-        ensures outer { OnOk result (self.new.outer.items ≡ self.old.outer.items) }
+    fn end_expr(&mut self) -> Result<(), Memory>
+        ensures items { OnOk result (items_of self.new.code
+            ≡ expr_done self.old.top (items_of self.old.code)) }
+        ensures outer { OnOk result (self.new.outer ≡ self.old.outer) }
         ensures top { OnOk result (self.new.top ≡ self.old.top) }
     {
         self.end_either()?;
@@ -130,8 +140,10 @@ impl Parser {
     }
 
     /// Takes `||`.
-    fn either(&mut self) -> Result<(), AllocError>
-        ensures { OnOk result (machine_of self.new ≡ want (frame 0 false true self.old.top.premise) (reverse self.old.outer.items) (or_done self.old.top (items_of self.old.code))) }
+    fn either(&mut self) -> Result<(), Memory>
+        ensures { OnOk result (machine_of self.new
+            ≡ want (frame 0 false true self.old.top.premise) self.old.outer
+                (or_done self.old.top (items_of self.old.code))) }
     {
         self.end_either()?;
         self.top = Frame {
@@ -145,9 +157,11 @@ impl Parser {
     }
 
     /// Takes `=>`.
-    fn implies(&mut self) -> Result<(), AllocError>
-        ensures { OnOk result (machine_of self.new ≡ want (frame 0 false false true) (reverse self.old.outer.items)
-            (if self.old.top.premise then supposed_too (or_done self.old.top (items_of self.old.code)) else supposed (or_done self.old.top (items_of self.old.code)))) }
+    fn implies(&mut self) -> Result<(), Memory>
+        ensures { OnOk result (machine_of self.new ≡ want (frame 0 false false true) self.old.outer
+            (if self.old.top.premise
+                then supposed_too (or_done self.old.top (items_of self.old.code))
+                else supposed (or_done self.old.top (items_of self.old.code)))) }
     {
         self.end_either()?;
         self.suppose()?;
@@ -162,9 +176,10 @@ impl Parser {
     }
 
     /// Makes the value on the stack a premise.
-    fn suppose(&mut self) -> Result<(), AllocError>
-        ensures items { OnOk result (items_of self.new.code ≡ (if self.old.top.premise then supposed_too (items_of self.old.code) else supposed (items_of self.old.code))) }
-        ensures outer { OnOk result (self.new.outer.items ≡ self.old.outer.items) }
+    fn suppose(&mut self) -> Result<(), Memory>
+        ensures items { OnOk result (items_of self.new.code ≡ (if self.old.top.premise
+            then supposed_too (items_of self.old.code) else supposed (items_of self.old.code))) }
+        ensures outer { OnOk result (self.new.outer ≡ self.old.outer) }
     {
         let step = if self.top.premise {
             Step::SupposeToo
@@ -175,8 +190,10 @@ impl Parser {
     }
 
     /// Takes a closing parenthesis, if one is open.
-    fn close(&mut self) -> Result<bool, AllocError>
-        ensures { IfOk result (λ went. IsTaken (after_close (reverse self.old.outer.items) (expr_done self.old.top (items_of self.old.code))) went (machine_of self.new)) }
+    fn close(&mut self) -> Result<bool, Memory>
+        ensures { IfOk result
+            (λ went. IsTaken (after_close self.old.outer (expr_done self.old.top (items_of self.old.code)))
+                went (machine_of self.new)) }
     {
         self.end_expr()?;
         let Some(frame) = self.outer.pop() else {
@@ -188,8 +205,11 @@ impl Parser {
     }
 
     /// Takes a token after an operand, and says whether it may stand there.
-    fn take_having(&mut self, token: Token<'_>) -> Result<bool, AllocError>
-        ensures { IfOk result (λ went. IsTaken (step_having self.old.top (reverse self.old.outer.items) (items_of self.old.code) (said token.entry)) went (machine_of self.new)) }
+    fn take_having(&mut self, token: Token<'_>) -> Result<bool, Memory>
+        ensures { IfOk result
+            (λ went. IsTaken
+                (step_having self.old.top self.old.outer (items_of self.old.code) (said token.entry))
+                went (machine_of self.new)) }
     {
         match token {
             Token::Both => {
@@ -210,9 +230,11 @@ impl Parser {
     }
 
     /// Takes a token, and says whether it may stand there.
-    pub(crate) fn take(&mut self, names: &Names, token: Token<'_>) -> Result<bool, AllocError>
+    pub(crate) fn take(&mut self, names: &Names, token: Token<'_>) -> Result<bool, Memory>
         requires { length (items_of self.old.code) < 1024 }
-        ensures { IfOk result (λ went. IsTaken (limited_step names.now (machine_of self.old) (said token.entry)) went (machine_of self.new)) }
+        ensures { IfOk result
+            (λ went. IsTaken (limited_step names.now (machine_of self.old) (said token.entry))
+                went (machine_of self.new)) }
     {
         if self.wants {
             self.take_wanting(names, token)
@@ -222,11 +244,12 @@ impl Parser {
     }
 
     /// Ends the rule, if it may end here.
-    pub(crate) fn finish(mut self) -> Result<Option<Code>, AllocError>
+    pub(crate) fn finish(mut self) -> Result<Option<Code>, Memory>
         ensures said { IfOk result (IsSaid (finished (machine_of self))) }
-        ensures items { IfOk result (λ code. IfSome code (λ steps. items_of steps ≡ expr_done self.top (items_of self.code))) }
+        ensures items { IfOk result (λ code. IfSome code (λ steps. items_of steps
+            ≡ expr_done self.top (items_of self.code))) }
     {
-        if self.wants || !self.outer.is_empty() {
+        if self.wants || self.outer.pop().is_some() {
             return Ok(None);
         }
         self.end_expr()?;

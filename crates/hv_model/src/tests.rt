@@ -70,7 +70,8 @@ fn model_files_have_their_first_fault(rt: HostRuntime) {
     }
 }
 
-/// The valid configurations of three options under a rule: bit k stands for the k-th, A being the lowest bit of k.
+/// The valid configurations of three options under a rule: bit k stands for the k-th, A being the
+/// lowest bit of k.
 fn valid_configurations(rt: &impl Abort, alloc: Global, rule: &str) -> Result<u32, Fail> {
     let text = format!(in alloc; "option A\noption B\noption C\nrule {rule}\n")?;
     let Ok(model) = read_model(alloc, text.as_bytes()) else {
@@ -247,7 +248,8 @@ fn add_options(text: &mut String, alloc: Global, letter: &str, count: u32) -> Re
     Ok(())
 }
 
-/// Options in two blocks, and between each and its partner this operator; before each pair this text.
+/// Options in two blocks, and between each and its partner this operator; before each pair this
+/// text.
 fn partners(alloc: Global, count: u32, before: &str, operator: &str) -> Result<String, Fail> {
     let mut text = String::new(alloc);
     add_options(&mut text, alloc, "x", count)?;

@@ -7,8 +7,10 @@ use Rattle.hv_model.specs.declared.code.Step.{Step}
 use Rattle.hv_model.specs.working.Steps.{Item, value, rule_of, conjoined, disjoined, negated, supposed, supposed_too, closed, rule_on}
 use Rattle.hv_model.specs.Token.{Token, implies, either, both, negate, open_, close, word}
 use Rattle.hv_model.specs.declared.parser.Frame.{Frame}
+use Rattle.hv_model.specs.declared.parser.TheConstants.{MOST_NESTED}
 
--- what the machine waits for, what stands open in the innermost parentheses and in those around it, and the stack
+-- what the machine waits for, what stands open in the innermost parentheses and in those around it,
+-- and the stack
 pub record Machine : Type 0 where
   pub wants : Bool
   pub top : Frame
@@ -17,7 +19,8 @@ pub record Machine : Type 0 where
 
 -- how much of a rule stands before an operand: `!`, `&&`, `||` and `=>`
 abbrev pub frame : ℕ → Bool → Bool → Bool → Frame
-frame negations conjunct disjunct premise = record { negations = negations; conjunct = conjunct; disjunct = disjunct; premise = premise }
+frame negations conjunct disjunct premise =
+    record { negations = negations; conjunct = conjunct; disjunct = disjunct; premise = premise }
 
 -- an operand comes next
 abbrev pub want : Frame → List Frame → List Item → Machine
@@ -38,7 +41,8 @@ negated_times (suc n) items = negated_times n (negated items)
 
 -- an operand after these `!` and `&&`
 abbrev pub completed : Frame → List Frame → List Item → Machine
-completed f outer items = have (frame 0 false f.disjunct f.premise) outer (cond f.conjunct (conjoined (negated_times f.negations items)) (negated_times f.negations items))
+completed f outer items = have (frame 0 false f.disjunct f.premise) outer
+    (cond f.conjunct (conjoined (negated_times f.negations items)) (negated_times f.negations items))
 
 -- the right side of `||`
 abbrev pub or_done : Frame → List Item → List Item
@@ -55,8 +59,10 @@ after_close (g ∷ outer) items = Some (completed g outer items)
 
 -- a token where an operand is wanted; `None` where it may not stand there
 abbrev pub step_wanting : List (List ℕ) → Frame → List Frame → List Item → Token → Option Machine
-step_wanting names f outer items (word name) = cond (is_name name) (Some (completed f outer (value (option (place_of names name)) ∷ items))) None
-step_wanting names f outer items negate = Some (want (frame (f.negations + 1) f.conjunct f.disjunct f.premise) outer items)
+step_wanting names f outer items (word name) = cond
+    (is_name name) (Some (completed f outer (value (option (place_of names name)) ∷ items))) None
+step_wanting names f outer items negate =
+    Some (want (frame (f.negations + 1) f.conjunct f.disjunct f.premise) outer items)
 step_wanting names f outer items open_ = Some (want (frame 0 false false false) (f ∷ outer) items)
 step_wanting names f outer items _ = None
 
@@ -64,13 +70,15 @@ step_wanting names f outer items _ = None
 abbrev pub step_having : Frame → List Frame → List Item → Token → Option Machine
 step_having f outer items both = Some (want (frame 0 true f.disjunct f.premise) outer items)
 step_having f outer items either = Some (want (frame 0 false true f.premise) outer (or_done f items))
-step_having f outer items implies = Some (want (frame 0 false false true) outer (cond f.premise (supposed_too (or_done f items)) (supposed (or_done f items))))
+step_having f outer items implies = Some (want (frame 0 false false true) outer
+    (cond f.premise (supposed_too (or_done f items)) (supposed (or_done f items))))
 step_having f outer items close = after_close outer (expr_done f items)
 step_having f outer items _ = None
 
 -- a token; `None` where it may not stand there
 abbrev pub step : List (List ℕ) → Machine → Token → Option Machine
-step names m token = cond m.wants (step_wanting names m.top m.outer m.items token) (step_having m.top m.outer m.items token)
+step names m token =
+    cond m.wants (step_wanting names m.top m.outer m.items token) (step_having m.top m.outer m.items token)
 
 -- the rule at the end of the tokens; `None` where a parenthesis is open
 abbrev pub finished_at : List Frame → List Item → Option Rule
@@ -88,8 +96,8 @@ run names m (token ∷ tokens) = option_and_then (λ next. run names next tokens
 
 -- whether the limits allow the next token
 abbrev pub is_allowed : Machine → Token → Bool
-is_allowed m open_ = nat_lt (length m.outer) 256
-is_allowed m negate = nat_lt m.top.negations 256
+is_allowed m open_ = nat_lt (length m.outer) MOST_NESTED
+is_allowed m negate = nat_lt m.top.negations MOST_NESTED
 is_allowed m _ = true
 
 -- a token within the limits; `None` where it may not stand there
@@ -99,7 +107,8 @@ limited_step names m token = cond (is_allowed m token) (step names m token) None
 -- the rule that the tokens say to the machine within the limits; `None` where they say none
 abbrev pub limited_run : List (List ℕ) → Machine → List Token → Option Rule
 limited_run names m [] = finished m
-limited_run names m (token ∷ tokens) = option_and_then (λ next. limited_run names next tokens) (limited_step names m token)
+limited_run names m (token ∷ tokens) = option_and_then
+    (λ next. limited_run names next tokens) (limited_step names m token)
 
 -- a step of the machine was taken, or there is none
 abbrev pub IsTaken : Option Machine → Bool → Machine → Type 0

@@ -5,7 +5,8 @@ use Rattle.hv_model.specs.Rule.{Rule, option, negation, conjunction, disjunction
 use Rattle.hv_model.specs.declared.code.Step.{Step}
 use Rattle.hv_model.specs.declared.code.Step.TheVariants.{Option, Not, And, Or, Suppose, SupposeToo, Conclude}
 
--- what stands on the stack: a rule, or the premises of an implication that is not ended, the last first
+-- what stands on the stack: a rule, or the premises of an implication that is not ended, the last
+-- first
 pub data Item : Type 0 where
   value : Rule → Item
   premises : Rule → List Rule → Item

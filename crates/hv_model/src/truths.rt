@@ -10,12 +10,12 @@ const ROOM: usize = 1024;
 
 /// A stack of truth values. Contracts see it as the list of these, the last first.
 #[derive(Drop)]
-pub(crate) struct Stack {
+pub(crate) struct Truths {
     values: [bool; ROOM],
     height: usize,
 }
 
-impl std::marker::Model for Stack {
+impl std::marker::Model for Truths {
     ghost use Rattle.std.specs.Prelude.{List, Bool, take, reverse, ◌≤◌};
 
     ghost Value = { List Bool };
@@ -25,11 +25,11 @@ impl std::marker::Model for Stack {
     ghost invariant = { λ s. s.height ≤ 1024 };
 }
 
-impl Stack {
-    pub(crate) fn new() -> Stack
+impl Truths {
+    pub(crate) fn new() -> Truths
         ensures { result ≡ [] }
     {
-        Stack {
+        Truths {
             values: [false; ROOM],
             height: 0,
         }
@@ -44,7 +44,8 @@ impl Stack {
     }
 
     fn pop(&mut self) -> Option<bool>
-        ensures { MatchOption result ((self.old ≡ []) × (self.new ≡ [])) (λ value. (self.old ≡ value ∷ self.new) × (length self.new < 1024)) }
+        ensures { MatchOption result ((self.old ≡ []) × (self.new ≡ [])) (λ value. (self.old
+            ≡ value ∷ self.new) × (length self.new < 1024)) }
     {
         if self.height == 0 {
             return None;
@@ -55,7 +56,8 @@ impl Stack {
 
     /// The last two values, the later one second, or `None` where there are not two.
     fn pop_two(&mut self) -> Option<(bool, bool)>
-        ensures { MatchOption result ((length self.old < 2) × (self.new ≡ self.old)) (λ pair. (self.old ≡ pair.1 ∷ pair.0 ∷ self.new) × (length self.new < 1024)) }
+        ensures { MatchOption result ((length self.old < 2) × (self.new ≡ self.old))
+            (λ pair. (self.old ≡ pair.1 ∷ pair.0 ∷ self.new) × (length self.new < 1024)) }
     {
         if self.height < 2 {
             return None;
