@@ -1,5 +1,5 @@
 -- Texts of configurations.
-use Rattle.std.proofs.Common.{◌≡◌, ℕ, zero, suc, ◌+◌, ◌<◌, ◌≤◌, Bool, true, false, ◌&&◌, ◌||◌, not, List, [], ◌∷◌, ◌++◌, cond, refl, sym, ◌∙◌, ap, arith, length, take, get_or, set, map, add-one, append_assoc, length-append, Option, Some, replicate}
+use Rattle.std.proofs.Common.{◌≡◌, ℕ, zero, suc, ◌+◌, ◌<◌, ◌≤◌, Bool, true, false, not, List, [], ◌∷◌, ◌++◌, cond, refl, sym, ◌∙◌, ap, arith, length, take, get_or, set, map, add-one, append_assoc, length-append, Option, Some, replicate}
 use Rattle.std.specs.Prelude.{nat_lt, slice_get}
 use Rattle.std.specs.List.{All, list_all, list_any, position, position_or_len, slice_split, join_with_byte}
 use Rattle.std.specs.Str.{bytes_eq}

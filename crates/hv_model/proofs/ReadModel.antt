@@ -1,6 +1,6 @@
 -- Reading model files line by line.
-use Rattle.std.proofs.Common.{◌≡◌, ℕ, ◌+◌, ◌<◌, ◌≤◌, Bool, true, false, ◌&&◌, List, [], ◌∷◌, ◌++◌, refl, sym, ◌∙◌, ap, subst, arith, length, get_or, map, length-append, Option, Some}
-use Rattle.std.specs.Prelude.{Result, Ok, Err, OnOk, OnErr, IfErr, IfSome, nat_lt}
+use Rattle.std.proofs.Common.{◌≡◌, ℕ, ◌+◌, ◌<◌, ◌≤◌, Bool, true, false, ◌&&◌, List, [], ◌∷◌, ◌++◌, refl, sym, ◌∙◌, ap, subst, arith, length, get_or, map, length-append}
+use Rattle.std.specs.Prelude.{Result, Ok, Err, OnOk, OnErr, IfErr, nat_lt}
 use Rattle.std.specs.List.{list_all, list_any}
 use Rattle.std.specs.Str.{bytes_eq}
 use Rattle.std.proofs.lemmas.Bool.Decides.{nat_tests}
@@ -14,7 +14,7 @@ use Rattle.hv_model.specs.Model.{IsRefusalIn}
 use Rattle.hv_model.specs.Valid.{IsValidIn}
 use Rattle.hv_model.specs.working.ModelLine.{IsRead}
 use Rattle.hv_model.specs.working.Steps.{AllFit}
-use Rattle.hv_model.specs.Rule.{Features, Rule, IsLeastValid, IsValid, is_about, meets_all}
+use Rattle.hv_model.specs.Rule.{Features, Rule, IsLeastValid, IsValid, is_about}
 use Rattle.hv_model.specs.working.Steps.{fits, rule_of}
 use Rattle.hv_model.specs.Token.{Token}
 use Rattle.hv_model.specs.declared.code.Step.{Step}

@@ -1,5 +1,5 @@
 -- A rule that is being read.
-use Rattle.std.proofs.Common.{◌≡◌, ℕ, Bool, true, false, ◌&&◌, List, [], ◌∷◌, refl, sym, ◌∙◌, ap, length, ◌<◌, Option, Some, None}
+use Rattle.std.proofs.Common.{◌≡◌, ℕ, Bool, true, false, ◌&&◌, List, [], ◌∷◌, sym, ◌∙◌, ap, length, ◌<◌, Option, Some, None}
 use Rattle.std.specs.Prelude.{option_and_then, IfSome, IfNone, IfOk, Result, Ok, Err}
 use Rattle.std.specs.List.{list_all}
 use Rattle.hv_base.proofs.Booleans.{and_true}

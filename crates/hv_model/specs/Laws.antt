@@ -1,6 +1,5 @@
 -- Laws for proofs above.
-use Rattle.std.specs.Prelude.{◌≡◌, List, Bool}
-use Rattle.std.proofs.Common.{◌∙◌, sym}
+use Rattle.std.proofs.Common.{◌∙◌}
 use Rattle.hv_cond.specs.Diagram.{Diagram, Keeps}
 use Rattle.hv_cond.specs.declared.conditions.Cond.{Cond}
 use Rattle.hv_model.specs.Rule.{Features}

@@ -1,5 +1,5 @@
 -- How a line is cut into tokens.
-use Rattle.std.specs.Prelude.{ℕ, Bool, cond, ◌&&◌, ◌==◌, List, [], ◌∷◌, Option, Some, None}
+use Rattle.std.specs.Prelude.{ℕ, cond, ◌&&◌, ◌==◌, List, [], ◌∷◌, Option, Some, None}
 use Rattle.std.specs.Option.{option_map_or}
 use Rattle.hv_base.specs.Ascii as ascii
 use Rattle.hv_base.specs.Ascii.{is_blank, is_identifier_byte}
@@ -40,6 +40,6 @@ tokens (byte ∷ []) = cond (is_blank byte) [] (cond (is_identifier_byte byte) (
 tokens (byte ∷ next ∷ bytes) =
     cond (is_blank byte) (tokens (next ∷ bytes))
     (cond (is_identifier_byte byte) (cond (is_identifier_byte next) (lengthened byte (tokens (next
-        ∷ bytes))) (word (byte ∷ []) ∷ tokens (next ∷ bytes)))
+    ∷ bytes))) (word (byte ∷ []) ∷ tokens (next ∷ bytes)))
     (option_map_or (λ token. token ∷ tokens bytes) (pair_of byte next) (single byte ∷ tokens (next
-        ∷ bytes))))
+    ∷ bytes))))

@@ -1,7 +1,7 @@
 //! A stack of conditions.
 ghost use Rattle.std.specs.Prelude.{◌≡◌, ◌<◌, [], ◌∷◌, true, Bool, List, length, IfOk, IfSome, MatchOption, OnOk, OnErr};
-ghost use Rattle.hv_cond.specs.Diagram.{IsNode, Keeps, holds};
-ghost use Rattle.hv_model.specs.working.Conds.{AllNodes, held};
+ghost use Rattle.hv_cond.specs.Diagram.{AllNodes, IsNode, Keeps, holds};
+ghost use Rattle.hv_model.specs.working.Conds.{held};
 ghost use Rattle.hv_model.specs.declared.code.Step.TheVariants.{Option};
 ghost use Rattle.hv_model.specs.working.Steps.{both_of, either_of, fits, implied_of, opposite_of, values_after};
 

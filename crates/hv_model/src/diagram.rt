@@ -59,7 +59,7 @@ fn diagram_of(alloc: Global, model: &Model) -> Result<(Store, Cond), Memory>
 {
     let order = order_of(alloc, model.rules(), model.options())?;
     let places = places_of(alloc, order.as_slice(), model.options())?;
-    let mut store = Store::new(alloc, model.options() as u32)?;
+    let mut store = Store::ordered(alloc, model.options() as u32, order.as_slice())?;
     let valid = joined(alloc, model.rules(), places.as_slice(), &mut store)?;
     Ok((store, valid))
 }

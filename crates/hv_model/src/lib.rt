@@ -21,8 +21,8 @@ mod truths;
 mod walk;
 
 pub use configs::{print_config, read_config};
-pub use faults::{ConfigFault, ModelFault, ModelKind, ModelRefusal};
 pub use diagram::{ModelDiagram, least_valid, read_diagram, read_model, valid_cond};
+pub use faults::{ConfigFault, ModelFault, ModelKind, ModelRefusal};
 pub use model::{Model, is_valid};
 pub use scan::skip_blanks;
 

@@ -106,7 +106,7 @@ impl Parser {
         ensures { IfOk result
             (λ went. IsTaken (if is_allowed (machine_of self.old) (said token.entry)
             then step_wanting names.now self.old.top self.old.outer (items_of self.old.code)
-                (said token.entry)
+            (said token.entry)
             else None) went (machine_of self.new)) }
     {
         match token {
@@ -143,7 +143,7 @@ impl Parser {
     fn either(&mut self) -> Result<(), Memory>
         ensures { OnOk result (machine_of self.new
             ≡ want (frame 0 false true self.old.top.premise) self.old.outer
-                (or_done self.old.top (items_of self.old.code))) }
+            (or_done self.old.top (items_of self.old.code))) }
     {
         self.end_either()?;
         self.top = Frame {
@@ -160,8 +160,8 @@ impl Parser {
     fn implies(&mut self) -> Result<(), Memory>
         ensures { OnOk result (machine_of self.new ≡ want (frame 0 false false true) self.old.outer
             (if self.old.top.premise
-                then supposed_too (or_done self.old.top (items_of self.old.code))
-                else supposed (or_done self.old.top (items_of self.old.code)))) }
+            then supposed_too (or_done self.old.top (items_of self.old.code))
+            else supposed (or_done self.old.top (items_of self.old.code)))) }
     {
         self.end_either()?;
         self.suppose()?;
@@ -193,7 +193,7 @@ impl Parser {
     fn close(&mut self) -> Result<bool, Memory>
         ensures { IfOk result
             (λ went. IsTaken (after_close self.old.outer (expr_done self.old.top (items_of self.old.code)))
-                went (machine_of self.new)) }
+            went (machine_of self.new)) }
     {
         self.end_expr()?;
         let Some(frame) = self.outer.pop() else {
@@ -208,8 +208,8 @@ impl Parser {
     fn take_having(&mut self, token: Token<'_>) -> Result<bool, Memory>
         ensures { IfOk result
             (λ went. IsTaken
-                (step_having self.old.top self.old.outer (items_of self.old.code) (said token.entry))
-                went (machine_of self.new)) }
+            (step_having self.old.top self.old.outer (items_of self.old.code) (said token.entry))
+            went (machine_of self.new)) }
     {
         match token {
             Token::Both => {
@@ -234,7 +234,7 @@ impl Parser {
         requires { length (items_of self.old.code) < 1024 }
         ensures { IfOk result
             (λ went. IsTaken (limited_step names.now (machine_of self.old) (said token.entry))
-                went (machine_of self.new)) }
+            went (machine_of self.new)) }
     {
         if self.wants {
             self.take_wanting(names, token)

@@ -14,11 +14,7 @@ use hv_base::Memory;
 use std::alloc::Global;
 
 /// The rule that the text says, where the options have these names, or `None` where it says none.
-pub(crate) fn read_rule(
-    alloc: Global,
-    names: &Names,
-    text: &[u8],
-) -> Result<Option<Code>, Memory>
+pub(crate) fn read_rule(alloc: Global, names: &Names, text: &[u8]) -> Result<Option<Code>, Memory>
     ensures rule { IfOk result (λ code. IfSome code
         (λ steps. IsRule names.now (tokens text.now) (rule_of steps))) }
     ensures none { IfOk result (λ code. IfNone code ((r : Rule)

@@ -37,7 +37,9 @@ fn word_len(text: &[u8]) -> usize
     ensures value { result ≡ prefix_len ascii.is_identifier_byte text.now }
     ensures within { result ≤ length text.now }
 {
-    text.iter().take_while(|byte| is_identifier_byte(**byte)).count()
+    text.iter()
+        .take_while(|byte| is_identifier_byte(**byte))
+        .count()
 }
 
 /// The text after its first blanks.

@@ -1,4 +1,4 @@
-use Rattle.std.proofs.Common.{ap, ◌≡◌, List, ℕ, [], ◌∷◌}
+use Rattle.std.proofs.Common.{◌≡◌, List, ℕ, [], ◌∷◌}
 use Rattle.std.proofs.lemmas.Result.{err_from_is_err_and}
 use Rattle.hv_model.specs.Bytes.{lines_of, without_return}
 use Rattle.hv_model.specs.Lines.{Reading, Reads, Says}
