@@ -1,5 +1,5 @@
 -- What the calls of a store leave and answer, of the diagram that callers see.
-use Rattle.std.proofs.Common.{◌≡◌, ◌==◌, ◌+◌, ◌*◌, ◌<◌, ◌≤◌, ℕ, Bool, true, false, cond, not, List, ◌++◌, length, map, get_or, Result, Ok, Err, IfOk, refl, sym, ap, ◌∙◌, ⊎_elim, subst, arith, length-append}
+use Rattle.std.proofs.Common.{◌≡◌, ◌==◌, ◌+◌, ◌*◌, ◌<◌, ◌≤◌, ℕ, Bool, true, false, cond, not, List, ◌++◌, length, map, get_or, Some, Result, Ok, Err, IfOk, refl, sym, ap, ◌∙◌, ⊎_elim, subst, arith, length-append}
 use Rattle.std.specs.List.{range_with_len}
 use Rattle.std.specs.declared.alloc.AllocError.{AllocError}
 use Rattle.std.proofs.lemmas.Bool.{cond-true, cond-false, cases_lt, cases_eq, eq-eqb, ne_eqb}
@@ -14,8 +14,8 @@ use Rattle.hv_cond.specs.declared.nodes.Nodes.{Nodes}
 use Rattle.hv_cond.specs.declared.orders.Order.{Order}
 use Rattle.hv_cond.specs.declared.results.Results.{Results}
 use Rattle.hv_cond.specs.Diagram.{Describes, IsChoice, IsEarlier, IsNever, IsNode, Keeps, SameMeaning, TestsLater, holds, holds_in, node, node_in, nodes, size, top, value_of}
-use Rattle.hv_cond.specs.working.Complements.{complement_of, GrowsBy, IsComplement}
-use Rattle.hv_cond.specs.working.Connectives.{apply, Grows, IsAnswer}
+use Rattle.hv_cond.specs.working.Complements.{complement_of, AreComplements, GrowsBy, IsComplement}
+use Rattle.hv_cond.specs.working.Connectives.{apply, AreAnswers, Grows, IsAnswer}
 use Rattle.hv_cond.specs.working.Nodes.{choice, newest_first, level, Extends, IsBranch, IsOrdered, IsReduced, MayBranch}
 use Rattle.hv_cond.specs.working.Orders.{IsOrder, by_position, numbered, seen}
 use Rattle.hv_cond.specs.working.Results.{known}
@@ -305,3 +305,16 @@ pub described_told : (order : Order) (old : Nodes) → IsOrder old.variables ord
     → Describes (seen order old) c (numbered_node order.variables.items x)
 described_told order old io r c l x is =
     subst (λ (y : Node). Describes (seen order old) c (numbered_node order.variables.items y)) (sym is) (described order old io r c l)
+
+------ answers that are forgotten
+
+-- fewer answers are right, where all are
+pub AreAnswers-fewer : (k : Connective) (ds : List Decision) (before after : Results)
+    → ((x y c : Cond) → known after x y ≡ Some c → known before x y ≡ Some c)
+    → AreAnswers k ds before → AreAnswers k ds after
+AreAnswers-fewer k ds before after fewer right = record { each = λ a b c h. right.each a b c (fewer a b c h) }
+
+pub AreComplements-fewer : (ds : List Decision) (before after : Complements)
+    → ((x c : Cond) → complement_of after x ≡ Some c → complement_of before x ≡ Some c)
+    → AreComplements ds before → AreComplements ds after
+AreComplements-fewer ds before after fewer right = record { each = λ a c h. right.each a c (fewer a c h) }

@@ -25,6 +25,15 @@ impl Complements {
         }
     }
 
+    /// Forgets the complements, if there are more than some.
+    pub(crate) fn trim(&mut self, most: usize)
+        ensures { (x c : Cond) → complement_of self.new x ≡ Some c → complement_of self.old x ≡ Some c }
+    {
+        if self.answers.len() > most {
+            self.answers.clear();
+        }
+    }
+
     fn find(&self, c: Cond) -> Option<Cond>
         ensures { result ≡ complement_of self.now c }
     {

@@ -40,6 +40,11 @@ impl Nodes {
         }
     }
 
+    /// How many answers are kept from one call to the next.
+    pub(crate) fn answers_kept(&self) -> usize {
+        self.decisions.len() / 4 + 4096
+    }
+
     /// The branch that a node is, unless it is a terminal.
     pub(crate) fn decision(&self, c: Cond) -> Option<Decision>
         requires reduced { IsReduced self.now }

@@ -29,6 +29,16 @@ impl Results {
         }
     }
 
+    /// Forgets the answers, if there are more than some: what is kept from one call to the next goes
+    /// with the number of nodes.
+    pub(crate) fn trim(&mut self, most: usize)
+        ensures { (x y c : Cond) → known self.new x y ≡ Some c → known self.old x y ≡ Some c }
+    {
+        if self.answers.len() > most {
+            self.answers.clear();
+        }
+    }
+
     pub(crate) fn find(&self, a: Cond, b: Cond) -> Option<Cond>
         ensures { result ≡ known self.now a b }
     {

@@ -113,6 +113,7 @@ impl Store {
             (λ c. (values : List Bool) →
             holds self.new c values ≡ (holds self.old a values && holds self.old b values)) }
     {
+        self.conjunctions.trim(self.nodes.answers_kept());
         combine(
             &mut self.nodes,
             &mut self.conjunctions,
@@ -134,6 +135,7 @@ impl Store {
             (λ c. (values : List Bool) →
             holds self.new c values ≡ (holds self.old a values || holds self.old b values)) }
     {
+        self.disjunctions.trim(self.nodes.answers_kept());
         combine(
             &mut self.nodes,
             &mut self.disjunctions,
@@ -152,6 +154,7 @@ impl Store {
         ensures meaning { IfOk result
             (λ c. (values : List Bool) → holds self.new c values ≡ not (holds self.old a values)) }
     {
+        self.complements.trim(self.nodes.answers_kept());
         complement(&mut self.nodes, &mut self.complements, a)
     }
 
