@@ -1,13 +1,16 @@
 -- Laws of conditions, for proofs above: what a diagram that keeps another one's nodes keeps besides, and of the parts of
 -- a condition.
-use Rattle.std.specs.Prelude.{◌≡◌, ◌+◌, ℕ, Bool, true, false, ◌&&◌, ◌||◌, not, List, [], ◌∷◌, ◌++◌, cond, refl}
-use Rattle.std.specs.List.{list_any}
-use Rattle.std.proofs.Common.{sym, ap, ◌∙◌, arith}
-use Rattle.std.proofs.lemmas.List.Sums.{sum_by-cons, sum_by-append}
+use Rattle.std.specs.Prelude.{◌≡◌, ◌==◌, ◌+◌, ◌<◌, ◌≤◌, ℕ, Bool, true, false, ◌&&◌, ◌||◌, not, List, [], ◌∷◌, ◌++◌, cond, length, refl}
+use Rattle.std.specs.List.{AllPairs, list_any, slice_index_or}
+use Rattle.std.proofs.Common.{sym, ap, ◌∙◌, add-zero, arith, suc, zero, zero-add}
 use Rattle.std.proofs.Math.Nat.{le_refl, le_trans}
-use Rattle.std.proofs.lemmas.Bool.{true_from_ne_false, both_ways}
+use Rattle.std.proofs.lemmas.Bool.{both_ways, false_from_ne_true, true_from_ne_false, true≢false}
+use Rattle.std.proofs.lemmas.List.Sums.{sum_by-cons, sum_by-append}
 use Rattle.hv_cond.specs.declared.conditions.Cond.{Cond}
-use Rattle.hv_cond.specs.Diagram.{AllNodes, AreDisjoint, Diagram, Implies, IsLeast, IsNever, IsNode, Keeps, SameMeaning, holds, size}
+use Rattle.hv_cond.specs.declared.conditions.Node.{Node}
+use Rattle.hv_cond.specs.declared.conditions.Node.TheVariants.{Truth, Falsity, Branch}
+use Rattle.hv_cond.specs.declared.nodes.Decision.{Decision}
+use Rattle.hv_cond.specs.Diagram.{AllNodes, AreDisjoint, Diagram, Implies, IsLeast, IsNever, IsNode, Keeps, SameMeaning, holds, holds_in, node, node_in, size, top, value_of}
 use Rattle.hv_cond.specs.Parts.{count_satisfied, IsPartition, NoneFalse}
 
 -- a diagram keeps its own nodes
@@ -98,6 +101,7 @@ NoneFalse-kept e [] nodes none = tt
 NoneFalse-kept e (c ∷ conds) nodes none =
     (λ never. none.0 (IsNever-before e c nodes.0 never), NoneFalse-kept e conds nodes.1 none.1)
 
+-- two lists of which none is false are one
 pub NoneFalse-append : (d : Diagram) (xs ys : List Cond) → NoneFalse d xs → NoneFalse d ys → NoneFalse d (xs ++ ys)
 NoneFalse-append d [] ys first second = second
 NoneFalse-append d (x ∷ xs) ys first second = (first.0, NoneFalse-append d xs ys first.1 second)
@@ -112,6 +116,7 @@ count_satisfied-kept {old} {new} e (c ∷ conds) nodes values =
     ∙ ap (λ (n : ℕ). cond (holds old c values) 1 0 + n) (count_satisfied-kept e conds nodes.1 values)
     ∙ sym (sum_by-cons _ c conds)
 
+-- of two lists an assignment satisfies as many as of each
 pub count_satisfied-append : (d : Diagram) (xs ys : List Cond) (values : List Bool)
     → count_satisfied d (xs ++ ys) values ≡ count_satisfied d xs values + count_satisfied d ys values
 count_satisfied-append d xs ys values = sum_by-append _ xs ys
@@ -146,3 +151,135 @@ satisfied d (c ∷ conds) values b e =
 pub IsPartition-together : (d : Diagram) (c : Cond) (parts : List Cond) → IsPartition d c parts
     → (values : List Bool) → list_any (λ part. holds d part values) parts ≡ holds d c values
 IsPartition-together d c parts p values = satisfied d parts values (holds d c values) (p.one values)
+
+-- an assignment that satisfies the first satisfies one more than among the rest
+one_more : (h : Bool) (all rest : ℕ) → all ≡ cond h 1 0 + rest → h ≡ true → rest + 1 ≤ all
+one_more true all rest e h = omega arith
+one_more false all rest e h = absurd (true≢false (sym h))
+
+-- an assignment that satisfies one of the conditions
+satisfied_once : (d : Diagram) (values : List Bool) (conds : List Cond) (j : ℕ) (e : Cond) → j < length conds
+    → holds d (slice_index_or conds j e) values ≡ true → 1 ≤ count_satisfied d conds values
+satisfied_once d values [] j e l h = absurd (omega arith)
+satisfied_once d values (c ∷ conds) zero e l h =
+    let all = sum_by-cons (λ (x : Cond). cond (holds d x values) 1 0) c conds in
+    let more = one_more (holds d c values) (count_satisfied d (c ∷ conds) values) (count_satisfied d conds values) all h in
+    omega arith
+satisfied_once d values (c ∷ conds) (suc j) e l h =
+    let all = sum_by-cons (λ (x : Cond). cond (holds d x values) 1 0) c conds in
+    let later = satisfied_once d values conds j e (omega arith) h in
+    omega arith
+
+-- an assignment that satisfies two of the conditions
+satisfied_twice : (d : Diagram) (values : List Bool) (conds : List Cond) (i j : ℕ) (e : Cond) → i < j → j < length conds
+    → holds d (slice_index_or conds i e) values ≡ true → holds d (slice_index_or conds j e) values ≡ true
+    → 2 ≤ count_satisfied d conds values
+satisfied_twice d values [] i j e before l first second = absurd (omega arith)
+satisfied_twice d values (c ∷ conds) i zero e before l first second = absurd (omega arith)
+satisfied_twice d values (c ∷ conds) zero (suc j) e before l first second =
+    let all = sum_by-cons (λ (x : Cond). cond (holds d x values) 1 0) c conds in
+    let more = one_more (holds d c values) (count_satisfied d (c ∷ conds) values) (count_satisfied d conds values) all first in
+    let later = satisfied_once d values conds j e (omega arith) second in
+    omega arith
+satisfied_twice d values (c ∷ conds) (suc i) (suc j) e before l first second =
+    let all = sum_by-cons (λ (x : Cond). cond (holds d x values) 1 0) c conds in
+    let later = satisfied_twice d values conds i j e (omega arith) (omega arith) first second in
+    omega arith
+
+-- no two parts hold together
+pub IsPartition-disjoint : (d : Diagram) (c : Cond) (parts : List Cond) → IsPartition d c parts
+    → AllPairs (λ a b. AreDisjoint d a b) parts
+IsPartition-disjoint d c parts p =
+    λ i j e before within values len first.
+    false_from_ne_true (holds d (slice_index_or parts j e) values) (λ second.
+    let two = satisfied_twice d values parts i j e before within first second in
+    let one = p.one values in
+    most_one (holds d c values) (count_satisfied d parts values) one two)
+  where
+    most_one : (b : Bool) (n : ℕ) → n ≡ cond b 1 0 → 2 ≤ n → ⊥
+    most_one true n e l = omega arith
+    most_one false n e l = omega arith
+
+-- an assignment that satisfies one of the conditions at most
+counted : (d : Diagram) (conds : List Cond) (values : List Bool) → count_satisfied d conds values ≤ 1
+    → count_satisfied d conds values ≡ cond (list_any (λ c. holds d c values) conds) 1 0
+counted d [] values l = refl
+counted d (c ∷ conds) values l =
+    let all = sum_by-cons (λ (x : Cond). cond (holds d x values) 1 0) c conds in
+    all ∙ split (holds d c values) (list_any (λ (x : Cond). holds d x values) conds) (count_satisfied d conds values) (omega arith) (λ m. counted d conds values m)
+  where
+    split : (h any : Bool) (n : ℕ) → cond h 1 0 + n ≤ 1 → (n ≤ 1 → n ≡ cond any 1 0) → cond h 1 0 + n ≡ cond (h || any) 1 0
+    split true any n l rest = omega arith
+    split false any n l rest = zero-add n ∙ rest (omega arith)
+
+-- conditions that are not false, of which no assignment satisfies two, are the parts of what they are together
+pub IsPartition-from : (d : Diagram) (c : Cond) (parts : List Cond) → AllNodes d parts → NoneFalse d parts
+    → ((values : List Bool) → count_satisfied d parts values ≤ 1)
+    → ((values : List Bool) → list_any (λ part. holds d part values) parts ≡ holds d c values)
+    → IsPartition d c parts
+IsPartition-from d c parts nodes none_false most together =
+    record {
+      nodes = nodes;
+      none_false = none_false;
+      one = λ values. counted d parts values (most values) ∙ ap (λ (b : Bool). cond b 1 0) (together values);
+    }
+
+-- a condition that is not false is its only part
+pub IsPartition-whole : (d : Diagram) (c : Cond) → IsNode d c → (¬ IsNever d c) → IsPartition d c (c ∷ [])
+IsPartition-whole d c node possible =
+    record { nodes = (node, tt); none_false = (possible, tt); one = λ values. sum_by-cons (λ (x : Cond). cond (holds d x values) 1 0) c [] ∙ add-zero (cond (holds d c values) 1 0) }
+
+-- a condition that never holds has no part
+pub IsPartition-none : (d : Diagram) (c : Cond) → ((values : List Bool) → holds d c values ≡ false) → IsPartition d c []
+IsPartition-none d c never =
+    record { nodes = tt; none_false = tt; one = λ values. ap (λ (b : Bool). cond b 1 0) (sym (never values)) }
+
+-- the parts of two conditions that never hold together are the parts of both
+pub IsPartition-append : (d : Diagram) (a b c : Cond) (xs ys : List Cond) → IsPartition d a xs → IsPartition d b ys
+    → ((values : List Bool) → (holds d a values && holds d b values) ≡ false)
+    → ((values : List Bool) → holds d c values ≡ (holds d a values || holds d b values)) → IsPartition d c (xs ++ ys)
+IsPartition-append d a b c xs ys p q apart both =
+    record {
+      nodes = AllNodes-append d xs ys p.nodes q.nodes;
+      none_false = NoneFalse-append d xs ys p.none_false q.none_false;
+      one = λ values.
+          count_satisfied-append d xs ys values
+          ∙ ap (λ (n : ℕ). n + count_satisfied d ys values) (p.one values)
+          ∙ ap (λ (n : ℕ). cond (holds d a values) 1 0 + n) (q.one values)
+          ∙ either (holds d a values) (holds d b values) (apart values)
+          ∙ ap (λ (x : Bool). cond x 1 0) (sym (both values));
+    }
+  where
+    either : (x y : Bool) → (x && y) ≡ false → cond x 1 0 + cond y 1 0 ≡ cond (x || y) 1 0
+    either true true e = absurd (true≢false e)
+    either true false e = refl
+    either false true e = refl
+    either false false e = refl
+
+-- a branch and truth are not falsity
+not_falsity : (i : ℕ) (low high : Cond) → Branch i low high ≡ Falsity → ⊥
+not_falsity i low high e = cc
+
+truth_is_not : Truth ≡ Falsity → ⊥
+truth_is_not e = cc
+
+-- the same among branches
+nowhere : (ds : List Decision) (c : Cond) → node_in ds c ≡ Falsity → (values : List Bool) → holds_in ds c values ≡ false
+unfolding holds_in node_in
+nowhere [] c is values = terminal (c.index == 1) is
+  where
+    terminal : (b : Bool) → cond b Truth Falsity ≡ Falsity → b ≡ false
+    terminal true e = absurd (truth_is_not e)
+    terminal false e = refl
+nowhere (d ∷ older) c is values =
+    split (c.index == top older) (node_in older c) (holds_in older c values) is (λ e. nowhere older c e values)
+  where
+    split : (b : Bool) (n : Node) (h : Bool) → cond b (Branch d.variable d.low d.high) n ≡ Falsity → (n ≡ Falsity → h ≡ false)
+        → cond b (cond (value_of values d.variable) (holds_in older d.high values) (holds_in older d.low values)) h ≡ false
+    split true n h e rest = absurd (not_falsity d.variable d.low d.high e)
+    split false n h e rest = rest e
+
+-- where a condition's node is falsity's, no values satisfy it
+pub holds-falsity : (d : Diagram) (c : Cond) → node d c ≡ Falsity → (values : List Bool) → holds d c values ≡ false
+unfolding holds node
+holds-falsity d c is values = nowhere d.decisions c is values

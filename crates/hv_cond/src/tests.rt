@@ -5,6 +5,7 @@ ghost use Rattle.hv_cond.specs.Diagram.{IsNode, Keeps};
 
 use crate::{Cond, Node, Store};
 use std::alloc::AllocError;
+use std::process::Abort;
 use std::test::Fail;
 
 /// The condition that has this truth table over the variables from `i` on.
@@ -61,9 +62,10 @@ fn table_of(store: &Store, c: Cond) -> u32
     table
 }
 
-#[test]
-fn truth_tables(rt: HostRuntime) -> Result<(), Fail> {
-    let mut store = Store::new(rt.alloc(), 3)?;
+/// Each truth table's condition has its table, and its first row is picked.
+fn assert_tables(rt: &impl Abort, mut store: Store) -> Result<(), Fail>
+    requires { store.variables ≡ 3 }
+{
     for table in 0..256 {
         let c = build(&mut store, 0, table)?;
         assert_eq!(rt; table_of(&store, c), table);
@@ -76,6 +78,51 @@ fn truth_tables(rt: HostRuntime) -> Result<(), Fail> {
             ),
         }
     }
+    Ok(())
+}
+
+#[test]
+fn truth_tables(rt: HostRuntime) -> Result<(), Fail> {
+    let store = Store::new(rt.alloc(), 3)?;
+    assert_tables(&rt, store)
+}
+
+#[test]
+fn truth_tables_where_the_last_variable_is_first(rt: HostRuntime) -> Result<(), Fail> {
+    let store = Store::ordered(rt.alloc(), 3, &[2, 7, 1, 2])?;
+    assert_tables(&rt, store)
+}
+
+#[test]
+fn truth_tables_where_the_middle_variable_is_first(rt: HostRuntime) -> Result<(), Fail> {
+    let store = Store::ordered(rt.alloc(), 3, &[1])?;
+    assert_tables(&rt, store)
+}
+
+/// Variable 0 without variable 3, or variable 1 with variable 3. By the numbers, its first assignment
+/// has variables 1 and 3 true; with variable 3 tested first, only variable 0.
+fn either_with_3(store: &mut Store) -> Result<Cond, AllocError>
+    requires { store.old.variables ≡ 4 }
+    ensures keeps { Keeps store.old store.new }
+    ensures node { IfOk result (IsNode store.new) }
+{
+    let without = store.var(0)?;
+    let with = store.var(1)?;
+    choose(store, 3, without, with)
+}
+
+#[test]
+fn the_least_assignment_goes_by_the_numbers(rt: HostRuntime) -> Result<(), Fail> {
+    let mut store = Store::ordered(rt.alloc(), 4, &[3, 2, 1, 0])?;
+    let c = either_with_3(&mut store)?;
+    let Some(found) = store.pick(c)? else {
+        return Err(Fail::from("a condition that holds somewhere"));
+    };
+    assert_eq!(rt; found.as_slice(), [false, true, false, true].as_slice());
+    let Node::Branch { var, .. } = store.node(c) else {
+        return Err(Fail::from("the condition is a branch"));
+    };
+    assert_eq!(rt; var, 3);
     Ok(())
 }
 

@@ -11,6 +11,6 @@ pub returns-then-len-most : goal.returns-then-len-most
 unfolding complement_of
 returns-then-len-most c =
     λ x z h.
-        let after : Complements = record { answers = c.clear.new.self } in
-        let none : complement_of after x ≡ None = rw c.clear.ensures.empty refl in
-        absurd (none_some (complement_of after x) z none h)
+    let after : Complements = record { answers = c.clear.new.self } in
+    let none : complement_of after x ≡ None = rw c.clear.ensures.empty refl in
+    absurd (none_some (complement_of after x) z none h)

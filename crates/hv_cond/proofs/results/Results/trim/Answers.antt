@@ -11,6 +11,6 @@ pub returns-then-len-most : goal.returns-then-len-most
 unfolding known
 returns-then-len-most c =
     λ x y z h.
-        let after : Results = record { answers = c.clear.new.self } in
-        let none : known after x y ≡ None = rw c.clear.ensures.empty refl in
-        absurd (none_some (known after x y) z none h)
+    let after : Results = record { answers = c.clear.new.self } in
+    let none : known after x y ≡ None = rw c.clear.ensures.empty refl in
+    absurd (none_some (known after x y) z none h)
