@@ -15,3 +15,8 @@ ExpressionsKeepTokens = (d k : ℕ) (ts : List Marked) (a : Expr) → Reads d k 
 abbrev pub ElementsKeepTokens : Type 0
 ElementsKeepTokens = (s : Standing) (ts : List Marked) (k : Skeleton) → ReadsElement s ts [] k
     → map (λ t. t.token.symbol) ts ≡ own_tokens k
+
+-- tokens are one expression at most, whatever their marks: its grammar is unambiguous
+abbrev pub ExpressionsHaveOneTree : Type 0
+ExpressionsHaveOneTree = (ts us : List Marked) (a b : Expr) → map (λ t. t.token) ts ≡ map (λ t. t.token) us
+    → Reads 0 0 ts [] a → Reads 0 0 us [] b → a ≡ b

@@ -9,3 +9,4 @@ pub mod Refusal
 pub mod Grammar
 pub mod Tokens
 pub mod Laws
+pub mod machine

@@ -1,8 +1,13 @@
 //! What is proved of the grammar, each law on a call that does nothing.
-ghost use Rattle.hv_grammar.specs.Laws.{ElementsKeepTokens, ExpressionsKeepTokens};
+ghost use Rattle.hv_grammar.specs.Laws.{ElementsKeepTokens, ExpressionsHaveOneTree, ExpressionsKeepTokens};
 
 /// Does nothing. Its contract says that a tree has exactly the tokens that it was read from.
 pub fn keeps_tokens()
     ensures expressions { ExpressionsKeepTokens }
     ensures elements { ElementsKeepTokens }
+{}
+
+/// Does nothing. Its contract says that no tokens are two expressions.
+pub fn has_one_tree()
+    ensures { ExpressionsHaveOneTree }
 {}

@@ -3,4 +3,4 @@
 
 mod laws;
 
-pub use laws::keeps_tokens;
+pub use laws::{has_one_tree, keeps_tokens};

@@ -1,0 +1,5 @@
+-- The parsing machine: Frames, with its tables, then Steps.
+pub mod Frames
+pub mod Steps
+pub mod Answers
+pub mod Moves

@@ -1,0 +1,38 @@
+-- What the machine answers to whole lists of tokens.
+use Rattle.std.specs.Prelude.{ℕ, suc, ◌+◌, Bool, true, false, cond, nat_le, List, [], ◌∷◌, Option, Some, None}
+use Rattle.hv_base.specs.declared.why.Why.{Why}
+use Rattle.hv_base.specs.declared.why.Why.TheVariants.{Syntax, TooDeep}
+use Rattle.hv_ctree.specs.tree.Expressions.{Expr}
+use Rattle.hv_grammar.specs.Symbols.{Token}
+use Rattle.hv_grammar.specs.Refusal.{Limits, operators_with}
+use Rattle.hv_grammar.specs.machine.Frames.{State}
+use Rattle.hv_grammar.specs.machine.Steps.{Taken, step, finished}
+
+pub data Answer : Type 0 where
+  Accepted : Expr → Answer
+  Refused : ℕ → Why → Answer
+
+-- the operators before a token, where the `(` before it may count too
+abbrev pub operators_before : ℕ → Bool → ℕ
+operators_before n false = n
+operators_before n true = suc n
+
+-- the operators up to a token that was taken and with it
+abbrev pub operators_after : ℕ → Taken → ℕ
+operators_after n k = operators_with (operators_before n k.late) k.role
+
+-- whether the token keeps the limits
+abbrev pub keeps : Limits → ℕ → Taken → Bool
+keeps l n k = cond (nat_le k.depth l.brackets) (nat_le (operators_after n k) l.operators) false
+
+abbrev pub at_end : ℕ → Option Expr → Answer
+at_end i None = Refused i Syntax
+at_end i (Some a) = Accepted a
+
+-- what the machine answers, after n operators and i tokens
+abbrev pub answer : Limits → State → ℕ → ℕ → List Token → Answer
+answer l m n i [] = at_end i (finished m)
+answer l m n i (t ∷ ts) = elim (step m t) [
+  | None ↦ Refused i Syntax
+  | Some k ↦ cond (keeps l n k) (answer l k.state (operators_after n k) (suc i) ts) (Refused i TooDeep)
+]
