@@ -229,3 +229,57 @@ fn each_punctuator_is_one_token(rt: HostRuntime) -> Result<(), Fail> {
     }
     Ok(())
 }
+
+#[test]
+fn long_files_are_cut_whole(rt: HostRuntime) -> Result<(), Fail> {
+    // Longer than 16,384 bytes.
+    let line = "int f(void) { return '\\n' + 0x1f; } /* c */\n";
+    let mut bytes = Vec::new(rt.alloc());
+    for _ in 0..500 {
+        bytes.extend_from_slice(line.as_bytes())?;
+    }
+    assert!(rt; bytes.len() > 16_384);
+    let tokens = lex(rt.alloc(), 0, bytes.as_slice())?;
+    assert_eq!(rt; tokens.len(), 500 * 12);
+    let (Some(first), Some(last)) = (tokens.get(500 * 12 - 12), tokens.get(500 * 12 - 1)) else {
+        return Err(Fail::from("a token is missing"));
+    };
+    assert!(rt; first.first && first.text.as_slice() == b"int".as_slice());
+    assert!(rt; !last.first && last.space && last.text.as_slice() == b"}".as_slice());
+    Ok(())
+}
+
+#[test]
+fn whole_tokens_have_a_kind(rt: HostRuntime) {
+    use PpKind::{CharConstant, Identifier, Number, Other, Punctuator, StringLiteral};
+    let table = [
+        ("ab1", Some(Identifier)),
+        ("L", Some(Identifier)),
+        ("1e+", Some(Number)),
+        (".5x", Some(Number)),
+        ("L'a'", Some(CharConstant)),
+        ("''", Some(CharConstant)),
+        ("\"a b\"", Some(StringLiteral)),
+        ("##", Some(Punctuator)),
+        ("<<=", Some(Punctuator)),
+        ("'ab", Some(Other)),
+        ("@", Some(Other)),
+        ("\\", Some(Other)),
+        ("", None),
+        (" ", None),
+        ("\n", None),
+        ("a\\\nb", None),
+        ("'a\n", None),
+        ("//", None),
+        ("/*", None),
+        ("/**/", None),
+        ("..", None),
+        ("a b", None),
+        ("+a", None),
+        ("<a.h>", None),
+        ("=>", None),
+    ];
+    for (text, kind) in table {
+        assert_eq!(rt; whole_token(text.as_bytes()), kind, "at {text}");
+    }
+}

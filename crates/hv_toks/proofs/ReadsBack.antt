@@ -141,5 +141,5 @@ reads_back n kind h =
     let small = in_64_bits kind n h in
     let len = digits_len (decimal n) (printed_suffix kind) (decimal_is_IsNumeral n small).0.1 (no_digits kind) in
     let read : integer (printed_int n kind) ≡ Some (said (is_decimal n) n kind) =
-        said_by (decimal n) (printed_suffix kind) (unsuffixed_len (printed_int n kind)) (printed_int n kind) _ _ refl len (numeral_printed n small) (suffix_said kind) in
+    said_by (decimal n) (printed_suffix kind) (unsuffixed_len (printed_int n kind)) (printed_int n kind) _ _ refl len (numeral_printed n small) (suffix_said kind) in
     ap (option_and_then typed) read ∙ has_type (is_decimal n) n kind (less _ _ h)
