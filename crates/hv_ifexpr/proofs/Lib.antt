@@ -1,4 +1,3 @@
 pub mod Completeness
-pub mod Numbers
 pub mod Soundness
 pub mod Truth

@@ -57,12 +57,3 @@ pub enum Symbol {
     /// What stands in no expression.
     Other,
 }
-
-/// The suffixes of a constant of a signed type, and none.
-pub const SIGNED_SUFFIXES: [&str; 5] = ["", "l", "L", "ll", "LL"];
-
-/// The suffixes of a constant of an unsigned type.
-pub const UNSIGNED_SUFFIXES: [&str; 18] = [
-    "u", "U", "ul", "uL", "Ul", "UL", "lu", "lU", "Lu", "LU", "ull", "uLL", "Ull", "ULL", "llu",
-    "llU", "LLu", "LLU",
-];

@@ -7,7 +7,7 @@ mod gathering;
 mod numeral;
 mod small;
 
-pub use controlling::{Binary, Operand, SIGNED_SUFFIXES, Symbol, UNSIGNED_SUFFIXES, Unary};
+pub use controlling::{Binary, Operand, Symbol, Unary};
 pub use gathering::builtin_header;
 pub use numeral::byte_of;
 pub use small::small_run;
