@@ -1,4 +1,5 @@
-//! How long the longest prefix of a text is that is of some category of tokens; 0 where there is none.
+//! How long the longest prefix of a text is that is of some category of tokens; 0 where there is
+//! none.
 
 ghost use Rattle.std.specs.Prelude.{◌≡◌, ◌≤◌, ◌<◌, ◌-◌, ◌^◌, ◌||◌, ◌==◌, ◌&&◌, length, not, false};
 ghost use Rattle.std.specs.List.{prefix_len, list_any};

@@ -6,7 +6,8 @@ ghost use Rattle.hv_toks.specs.Splices.{splice_len};
 use hv_base::{List, Memory, Text};
 use std::alloc::Global;
 
-/// A place in a file. What is left from there on are the bytes that stay after the splicing of lines.
+/// A place in a file. What is left from there on are the bytes that stay after the splicing of
+/// lines.
 #[derive(Clone, Copy)]
 pub(crate) struct Cursor<'a> {
     bytes: &'a [u8],
@@ -80,12 +81,17 @@ impl<'a> Cursor<'a> {
 
     /// The first byte that is left, or `None` where none is.
     pub(crate) fn next(self) -> Option<Next<'a>>
-        ensures marks { MatchOption result (marks_of self.entry ≡ []) (λ next. marks_of self.entry ≡ record { byte = next.byte; offset = next.offset } ∷ marks_of next.rest) }
-        ensures text { MatchOption result (text_of self.entry ≡ []) (λ next. text_of self.entry ≡ text_from next) }
+        ensures marks { MatchOption result (marks_of self.entry ≡ [])
+            (λ next. marks_of self.entry ≡ record { byte = next.byte; offset = next.offset }
+            ∷ marks_of next.rest) }
+        ensures text { MatchOption result (text_of self.entry ≡ [])
+            (λ next. text_of self.entry ≡ text_from next) }
         ensures from { IfSome result (λ next. self.entry.at ≤ next.offset) }
         ensures within { IfSome result (λ next. next.offset < length self.entry.bytes.now) }
-        ensures byte { IfSome result (λ next. next.byte ≡ slice_index self.entry.bytes.now next.offset) }
-        ensures rest { IfSome result (λ next. next.rest ≡ record { bytes = self.entry.bytes; at = next.offset + 1 }) }
+        ensures byte { IfSome result (λ next. next.byte
+            ≡ slice_index self.entry.bytes.now next.offset) }
+        ensures rest { IfSome result (λ next. next.rest ≡ record
+            { bytes = self.entry.bytes; at = next.offset + 1 }) }
     {
         let mut at = self.at;
         while at < self.bytes.len() {
@@ -129,10 +135,13 @@ impl<'a> Cursor<'a> {
     pub(crate) fn skip(self, len: usize) -> Cursor<'a>
         ensures text { text_of result ≡ drop len (text_of self.entry) }
         ensures places { places_of result ≡ drop len (places_of self.entry) }
-        ensures last { 0 < len → len ≤ length (text_of self.entry) → result.at ≡ slice_index (places_of self.entry) (len - 1) + 1 }
+        ensures last { 0 < len → len ≤ length (text_of self.entry) → result.at ≡ slice_index
+            (places_of self.entry) (len - 1) + 1 }
         ensures from { len ≤ length (text_of self.entry) → self.entry.at + len ≤ result.at }
-        ensures within { 0 < len → len ≤ length (text_of self.entry) → result.at ≤ length self.entry.bytes.now }
-        ensures as_read { len ≤ length (text_of self.entry) → result.at ≡ self.entry.at + len → take len (text_of self.entry) ≡ take len (drop self.entry.at self.entry.bytes.now) }
+        ensures within { 0 < len → len ≤ length (text_of self.entry)
+            → result.at ≤ length self.entry.bytes.now }
+        ensures as_read { len ≤ length (text_of self.entry) → result.at ≡ self.entry.at + len
+            → take len (text_of self.entry) ≡ take len (drop self.entry.at self.entry.bytes.now) }
     {
         let mut rest = self;
         for _ in 0..len {
@@ -168,9 +177,12 @@ impl<'a> Cursor<'a> {
         requires within { len ≤ length (text_of self) }
         ensures text { IfOk result (λ taken. taken.text ≡ take len (text_of self.entry)) }
         ensures start { IfOk result (λ taken. taken.start ≡ slice_index (places_of self.entry) 0) }
-        ensures end { IfOk result (λ taken. taken.end ≡ slice_index (places_of self.entry) (len - 1) + 1) }
-        ensures rest_text { IfOk result (λ taken. text_of taken.rest ≡ drop len (text_of self.entry)) }
-        ensures rest_places { IfOk result (λ taken. places_of taken.rest ≡ drop len (places_of self.entry)) }
+        ensures end { IfOk result (λ taken. taken.end ≡ slice_index (places_of self.entry)
+            (len - 1) + 1) }
+        ensures rest_text { IfOk result (λ taken. text_of taken.rest ≡ drop len
+            (text_of self.entry)) }
+        ensures rest_places { IfOk result (λ taken. places_of taken.rest ≡ drop len
+            (places_of self.entry)) }
     {
         let rest = self.skip(len);
         // As many bytes as were read there: no splice is among them.

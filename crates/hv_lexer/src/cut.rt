@@ -55,10 +55,14 @@ fn add<'a>(
 ) -> Result<After<'a>, LexRefusal>
     requires some { 0 < found.len }
     requires within { found.len ≤ length (text_of text) }
-    ensures ok { OnOk result (tokens.new ≡ tokens.old ++ token before.file before.line before.space found.kind (take found.len (text_of text.entry)) (take found.len (places_of text.entry)) ∷ []) }
-    ensures line { IfOk result (λ after. after.line ≡ line_after before.line (take found.len (text_of text.entry))) }
+    ensures ok { OnOk result (tokens.new ≡ tokens.old
+        ++ token before.file before.line before.space found.kind
+        (take found.len (text_of text.entry)) (take found.len (places_of text.entry)) ∷ []) }
+    ensures line { IfOk result (λ after. after.line ≡ line_after before.line
+        (take found.len (text_of text.entry))) }
     ensures text { IfOk result (λ after. text_of after.rest ≡ drop found.len (text_of text.entry)) }
-    ensures places { IfOk result (λ after. places_of after.rest ≡ drop found.len (places_of text.entry)) }
+    ensures places { IfOk result (λ after. places_of after.rest ≡ drop found.len
+        (places_of text.entry)) }
     ensures memory { IfErr result (λ refusal. refusal ≡ LexRefusal.Memory) }
 {
     let Ok(taken) = text.take(alloc, found.len) else {
@@ -88,8 +92,10 @@ fn add<'a>(
 
 /// Cuts what is left of a file.
 pub(crate) fn cut(alloc: Global, file: u32, text: Cursor) -> Result<List<PpTok>, LexRefusal>
-    ensures ok { IfOk result (λ list. Cuts file LinePrefix.Start false (text_of text.entry) (places_of text.entry) (tokens list)) }
-    ensures refused { IfErr result (IsRefusalOf (Cuts file LinePrefix.Start false (text_of text.entry) (places_of text.entry))) }
+    ensures ok { IfOk result (λ list. Cuts file LinePrefix.Start false (text_of text.entry)
+        (places_of text.entry) (tokens list)) }
+    ensures refused { IfErr result (IsRefusalOf
+        (Cuts file LinePrefix.Start false (text_of text.entry) (places_of text.entry))) }
 {
     let mut tokens = List::new(alloc);
     let mut line = LinePrefix::Start;

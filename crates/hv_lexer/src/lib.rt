@@ -23,19 +23,21 @@ pub use refusal::LexRefusal;
 use std::alloc::Global;
 pub use whole::whole_token;
 
-/// Cuts the file of this number into its preprocessing tokens, or refuses it for a comment that is not
-/// closed. Out of memory may be answered at any file.
+/// Cuts the file of this number into its preprocessing tokens, or refuses it for a comment that is
+/// not closed. Out of memory may be answered at any file.
 pub fn lex(alloc: Global, file: u32, bytes: &[u8]) -> Result<List<PpTok>, LexRefusal>
     ensures ok { IfOk result (λ list. IsCut file bytes.now (tokens list)) }
     ensures refused { IfErr result (IsRefusalOf (IsCut file bytes.now)) }
     ensures rising { IfOk result (λ list. Rise file 0 (length bytes.now) list) }
-    // what lies between the tokens; when a token has `space` and `first`, and where a header name stands
+    // what lies between the tokens; when a token has `space` and `first`, and where a header name
+    // stands
     ensures made_of { IfOk result (λ list. IsMadeOf list bytes.now) }
     // each token is the longest that starts at its place
     ensures longest { IfOk result (λ list. AreLongest list bytes.now) }
     ensures total { (cutting : Cutting) × IsCut file bytes.now cutting }
     ensures only { (cutting : Cutting) → IsCut file bytes.now cutting → Tells result cutting }
-    ensures reads_back { (pieces : List Piece) → ArePrintable pieces → bytes.now ≡ spaced pieces → Restores result pieces }
+    ensures reads_back { (pieces : List Piece) → ArePrintable pieces → bytes.now ≡ spaced pieces
+        → Restores result pieces }
 {
     cut::cut(alloc, file, Cursor::new(bytes))
 }

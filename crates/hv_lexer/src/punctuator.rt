@@ -60,7 +60,8 @@ fn is_single(byte: u8) -> bool
 
 /// The first two bytes, or `None` where there is but one.
 fn first_two(first: Next) -> Option<[u8; 2]>
-    ensures { MatchOption result (length (text_from first.entry) < 2) (λ pair. (2 ≤ length (text_from first.entry)) × (pair ≡ take 2 (text_from first.entry))) }
+    ensures { MatchOption result (length (text_from first.entry) < 2)
+        (λ pair. (2 ≤ length (text_from first.entry)) × (pair ≡ take 2 (text_from first.entry))) }
 {
     let second = first.rest.next()?;
     Some([first.byte, second.byte])
@@ -68,7 +69,9 @@ fn first_two(first: Next) -> Option<[u8; 2]>
 
 /// The first three bytes, or `None` where there are fewer.
 fn first_three(first: Next) -> Option<[u8; 3]>
-    ensures { MatchOption result (length (text_from first.entry) < 3) (λ triple. (3 ≤ length (text_from first.entry)) × (triple ≡ take 3 (text_from first.entry))) }
+    ensures { MatchOption result (length (text_from first.entry) < 3)
+        (λ triple. (3 ≤ length (text_from first.entry))
+        × (triple ≡ take 3 (text_from first.entry))) }
 {
     let second = first.rest.next()?;
     let third = second.rest.next()?;

@@ -4,8 +4,8 @@ use hv_toks::PpKind;
 use std::process::Abort;
 use std::test::Fail;
 
-/// A token: its kind, its offsets, its spelling, whether white space stands before it, whether it is the
-/// first of its line.
+/// A token: its kind, its offsets, its spelling, whether white space stands before it, whether it
+/// is the first of its line.
 type Row = (PpKind, u64, u64, &'static str, bool, bool);
 
 fn assert_token<R: Abort>(rt: &R, token: &PpTok, row: &Row) {
@@ -154,8 +154,8 @@ fn is_spelled(tokens: &[PpTok], spellings: &str) -> bool {
 
 #[test]
 fn the_examples_of_the_standard_are_cut(rt: HostRuntime) -> Result<(), Fail> {
-    // 6.4 paragraphs 5 and 6, 6.4.9 paragraph 3, 6.10.3.5 paragraphs 5 to 7, and splices within tokens of each
-    // kind.
+    // 6.4 paragraphs 5 and 6, 6.4.9 paragraph 3, 6.10.3.5 paragraphs 5 to 7, and splices within
+    // tokens of each kind.
     let table = [
         ("1Ex", "1Ex"),
         ("x+++++y", "x ++ ++ + y"),

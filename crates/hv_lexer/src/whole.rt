@@ -18,8 +18,8 @@ fn whole_kind(len: usize, prefix: Prefix) -> Option<PpKind>
     }
 }
 
-/// The kind of a text that is one preprocessing token, as the result of `##` must be (ISO/IEC 9899:1999,
-/// 6.10.3.3), or `None` where it is none. Takes no memory.
+/// The kind of a text that is one preprocessing token, as the result of `##` must be (ISO/IEC
+/// 9899:1999, 6.10.3.3), or `None` where it is none. Takes no memory.
 pub fn whole_token(text: &[u8]) -> Option<PpKind>
     ensures value { result ≡ cutting.whole_token text.now }
     // all of it is the longest token that it begins with

@@ -18,8 +18,11 @@ pub kept-append : (diagram : Diagram) (values : List Bool) (a b : List StreamTok
     → kept diagram values (a ++ b) ≡ kept diagram values a ++ kept diagram values b
 kept-append diagram values [] b = refl
 kept-append diagram values (x ∷ a) b =
-    elim (holds diagram x.cond values) as (λ t. map unconditional (cond t (x ∷ filter (λ token. holds diagram token.cond values) (a ++ b)) (filter (λ token. holds diagram token.cond values) (a ++ b)))
-    ≡ map unconditional (cond t (x ∷ filter (λ token. holds diagram token.cond values) a) (filter (λ token. holds diagram token.cond values) a)) ++ kept diagram values b) [
+    elim (holds diagram x.cond values) as
+    (λ t. map unconditional (cond t (x ∷ filter (λ token. holds diagram token.cond values)
+    (a ++ b)) (filter (λ token. holds diagram token.cond values) (a ++ b)))
+    ≡ map unconditional (cond t (x ∷ filter (λ token. holds diagram token.cond values) a)
+    (filter (λ token. holds diagram token.cond values) a)) ++ kept diagram values b) [
       | true ↦ ap (λ kept_toks. unconditional x ∷ kept_toks) (kept-append diagram values a b)
       | false ↦ kept-append diagram values a b
     ]
@@ -32,33 +35,44 @@ projected-append diagram values a b =
     ∙ map-append (λ (token : KeptTok). token.tok) (kept diagram values a) (kept diagram values b)
 
 -- one more token
-pub kept-add : (diagram : Diagram) (values : List Bool) (stream : List StreamTok) (token : StreamTok)
-    → kept diagram values (stream ++ token ∷ []) ≡ kept diagram values stream ++ (if holds diagram token.cond values then unconditional token ∷ [] else [])
+pub kept-add : (diagram : Diagram) (values : List Bool) (stream : List StreamTok)
+    (token : StreamTok)
+    → kept diagram values (stream ++ token ∷ []) ≡ kept diagram values stream ++
+    (if holds diagram token.cond values then unconditional token ∷ [] else [])
 kept-add diagram values stream token =
     kept-append diagram values stream (token ∷ [])
     ∙ ap (λ more. kept diagram values stream ++ more) (one (holds diagram token.cond values))
   where
-    one : (t : Bool) → map unconditional (cond t (token ∷ []) []) ≡ (if t then unconditional token ∷ [] else [])
+    one : (t : Bool) → map unconditional (cond t (token ∷ []) []) ≡
+        (if t then unconditional token ∷ [] else [])
     one true = refl
     one false = refl
 
 -- a store that grows keeps what a configuration keeps
-pub kept-Keeps : {old new : Diagram} → Keeps old new → (values : List Bool) (stream : List StreamTok)
+pub kept-Keeps : {old new : Diagram} → Keeps old new
+    → (values : List Bool) (stream : List StreamTok)
     → All (λ token. IsNode old token.cond) stream → kept new values stream ≡ kept old values stream
 kept-Keeps keeps values [] nodes = refl
 kept-Keeps {old} {new} keeps values (x ∷ stream) nodes =
-    let same = kept-Keeps keeps values stream (All-tail (λ token. IsNode old token.cond) x stream nodes) in
+    let same = kept-Keeps keeps values stream
+    (All-tail (λ token. IsNode old token.cond) x stream nodes) in
     rw (keeps.meaning x.cond (All-head (λ token. IsNode old token.cond) x stream nodes) values)
-    (elim (holds old x.cond values) as (λ t. map unconditional (cond t (x ∷ filter (λ token. holds new token.cond values) stream) (filter (λ token. holds new token.cond values) stream))
-    ≡ map unconditional (cond t (x ∷ filter (λ token. holds old token.cond values) stream) (filter (λ token. holds old token.cond values) stream))) [
+    (elim (holds old x.cond values) as
+    (λ t. map unconditional (cond t (x ∷ filter (λ token. holds new token.cond values) stream)
+    (filter (λ token. holds new token.cond values) stream))
+    ≡ map unconditional (cond t (x ∷ filter (λ token. holds old token.cond values) stream)
+    (filter (λ token. holds old token.cond values) stream))) [
       | true ↦ ap (λ kept_toks. unconditional x ∷ kept_toks) same
       | false ↦ same
     ])
 
 -- the same without starts
-pub projected-Keeps : {old new : Diagram} → Keeps old new → (values : List Bool) (stream : List StreamTok)
-    → All (λ token. IsNode old token.cond) stream → projected new values stream ≡ projected old values stream
-projected-Keeps keeps values stream nodes = ap (map (λ (token : KeptTok). token.tok)) (kept-Keeps keeps values stream nodes)
+pub projected-Keeps : {old new : Diagram} → Keeps old new
+    → (values : List Bool) (stream : List StreamTok)
+    → All (λ token. IsNode old token.cond) stream
+    → projected new values stream ≡ projected old values stream
+projected-Keeps keeps values stream nodes =
+    ap (map (λ (token : KeptTok). token.tok)) (kept-Keeps keeps values stream nodes)
 
 -- and its conditions stay conditions
 pub nodes-Keeps : {old new : Diagram} → Keeps old new → (stream : List StreamTok)
@@ -75,9 +89,11 @@ nodes-Keeps {old} {new} keeps (x ∷ stream) nodes =
 pub meaning_after-append : (before : Macro) (xs ys : List Entry) (name : List ℕ)
     → meaning_after before (xs ++ ys) name ≡ meaning_after (meaning_after before xs name) ys name
 meaning_after-append before [] ys name = refl
-meaning_after-append before (x ∷ xs) ys name = meaning_after-append (if bytes_eq x.name name then x.macro else before) xs ys name
+meaning_after-append before (x ∷ xs) ys name =
+    meaning_after-append (if bytes_eq x.name name then x.macro else before) xs ys name
 
 -- a further entry gives its name its macro, and leaves each other name what it was
 pub meaning_of-add : (entries : List Entry) (entry : Entry) (name : List ℕ)
-    → meaning_of (entries ++ entry ∷ []) name ≡ (if bytes_eq entry.name name then entry.macro else meaning_of entries name)
+    → meaning_of (entries ++ entry ∷ []) name ≡
+    (if bytes_eq entry.name name then entry.macro else meaning_of entries name)
 meaning_of-add entries entry name = meaning_after-append _ entries (entry ∷ []) name

@@ -16,7 +16,8 @@ pub record Entry : Type 0 where
 -- what a name means after these entries, where it meant this before them: its latest entry counts
 abbrev pub meaning_after : Macro → List Entry → List ℕ → Macro
 meaning_after before [] name = before
-meaning_after before (e ∷ entries) name = meaning_after (if bytes_eq e.name name then e.macro else before) entries name
+meaning_after before (e ∷ entries) name =
+    meaning_after (if bytes_eq e.name name then e.macro else before) entries name
 
 -- what a name means in a macro state
 abbrev pub meaning_of : List Entry → List ℕ → Macro

@@ -1,4 +1,5 @@
--- Of a preprocessing token, what expanding macros (6.10.3) and evaluating conditions (6.10.1) look at.
+-- Of a preprocessing token, what expanding macros (6.10.3) and evaluating conditions (6.10.1) look
+-- at.
 -- Not in here: where the token stands, and whether it is the first of its line.
 use Rattle.std.specs.Prelude.{ℕ, Bool, List, map}
 use Rattle.hv_toks.specs.declared.token.PpKind.{PpKind}

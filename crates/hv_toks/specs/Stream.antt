@@ -14,9 +14,11 @@ pub record KeptTok : Type 0 where
 abbrev pub unconditional : StreamTok → KeptTok
 unconditional token = record { tok = token.tok; start = token.start }
 
--- the tokens whose condition holds where the options have these values, in order, each with its start
+-- the tokens whose condition holds where the options have these values, in order, each with its
+-- start
 abbrev pub kept : Diagram → List Bool → List StreamTok → List KeptTok
-kept diagram values stream = map unconditional (filter (λ token. holds diagram token.cond values) stream)
+kept diagram values stream =
+    map unconditional (filter (λ token. holds diagram token.cond values) stream)
 
 -- the same tokens without their starts
 abbrev pub projected : Diagram → List Bool → List StreamTok → List CTok

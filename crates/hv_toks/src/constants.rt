@@ -1,4 +1,4 @@
-//! Reading constants: what their spellings mean (ISO/IEC 9899:1999, 6.4.4).
+//! Reading integer constants: what their spellings mean (ISO/IEC 9899:1999, 6.4.4.1).
 ghost use Rattle.std.specs.Prelude.{◌≡◌, ℕ, ◌<◌, ◌≤◌, ◌^◌, ◌∷◌, [], Some, length, nat_lt};
 ghost use Rattle.std.specs.List.{list_any};
 ghost use Rattle.std.specs.Str.{bytes_eq};
@@ -44,7 +44,7 @@ pub struct Integer {
 }
 
 /// The value of a digit; 16 where the byte is none.
-fn digit(byte: u8) -> u64
+pub(crate) fn digit(byte: u8) -> u64
     ensures value { result ≡ constants.digit byte }
     ensures small { result ≤ 16 }
 {
@@ -69,7 +69,7 @@ fn with_digit(base: u64, number: u64, byte: u8) -> Option<u64>
 }
 
 /// The number of one or more digits, if it needs no more than 64 bits.
-fn number(base: u64, digits: &[u8]) -> Option<u64>
+pub(crate) fn number(base: u64, digits: &[u8]) -> Option<u64>
     requires { base ≤ 16 }
     ensures { result ≡ constants.number base digits.now }
 {
@@ -183,8 +183,8 @@ fn unsuffixed_len(text: &[u8]) -> usize
         .count()
 }
 
-/// What the spelling of an integer constant says (6.4.4.1), or `None` where the text is none or needs
-/// more than 64 bits.
+/// What the spelling of an integer constant says (6.4.4.1), or `None` where the text is none or
+/// needs more than 64 bits.
 pub fn read_integer(text: &[u8]) -> Option<Integer>
     ensures { result ≡ constants.integer text.now }
 {
@@ -239,8 +239,8 @@ fn type_of(integer: Integer) -> Option<IntType>
         .find(|kind| fits(*kind, integer.value))
 }
 
-/// The value and the type of an integer constant (6.4.4.1), or `None` where the text is none or no type
-/// can represent it. One that is printed with a type is read back.
+/// The value and the type of an integer constant (6.4.4.1), or `None` where the text is none or no
+/// type can represent it. One that is printed with a type is read back.
 pub fn read_int_constant(text: &[u8]) -> Option<(u64, IntType)>
     ensures value { result ≡ constants.int_constant text.now }
     ensures reads_back { (n : ℕ) (kind : IntType) → n < constants.limit kind
@@ -248,72 +248,4 @@ pub fn read_int_constant(text: &[u8]) -> Option<(u64, IntType)>
 {
     let integer = read_integer(text)?;
     Some((integer.value, type_of(integer)?))
-}
-
-fn simple_escape(byte: u8) -> Option<u64>
-    ensures { result ≡ constants.simple_escape byte }
-{
-    match byte {
-        b'\'' | b'"' | b'?' | b'\\' => Some(u64::from(byte)),
-        b'a' => Some(7),
-        b'b' => Some(8),
-        b'f' => Some(12),
-        b'n' => Some(10),
-        b'r' => Some(13),
-        b't' => Some(9),
-        b'v' => Some(11),
-        _ => None,
-    }
-}
-
-/// The value of a simple escape, or of one to three octal digits.
-fn simple_or_octal(text: &[u8]) -> Option<u64>
-    ensures { result ≡ constants.simple_or_octal text.now }
-{
-    match text {
-        [byte] if digit(*byte) < 8 => Some(digit(*byte)),
-        [byte] => simple_escape(*byte),
-        _ if text.len() <= 3 => number(8, text),
-        _ => None,
-    }
-}
-
-/// The value of an escape sequence, without its backslash.
-fn escape(text: &[u8]) -> Option<u64>
-    ensures { result ≡ constants.escape text.now }
-{
-    match text {
-        [] => None,
-        [b'x', digits @ ..] => number(16, digits),
-        _ => simple_or_octal(text),
-    }
-}
-
-/// The value, if it fits a byte.
-fn as_byte(value: u64) -> Option<u8>
-    ensures { result ≡ constants.as_byte value }
-{
-    if value < 256 { Some(value as u8) } else { None }
-}
-
-/// The byte that one character between quotes means.
-fn character(quote: u8, text: &[u8]) -> Option<u8>
-    ensures { result ≡ constants.character quote text.now }
-{
-    match text {
-        [] => None,
-        [b'\\', rest @ ..] => as_byte(escape(rest)?),
-        [byte] if *byte != quote && *byte != b'\n' => Some(*byte),
-        _ => None,
-    }
-}
-
-/// The byte of a character constant of one character (6.4.4.4), or `None` where the text is none.
-pub fn read_char_constant(text: &[u8]) -> Option<u8>
-    ensures { result ≡ constants.char_constant text.now }
-{
-    match text {
-        [b'\'', middle @ .., b'\''] => character(b'\'', middle),
-        _ => None,
-    }
 }

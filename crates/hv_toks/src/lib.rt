@@ -2,6 +2,7 @@
 //! translation unit under all configurations.
 #![tactic(auto)]
 
+mod characters;
 mod constants;
 mod macros;
 mod parted;
@@ -9,7 +10,8 @@ mod prefix;
 mod stream;
 mod token;
 
-pub use constants::{Integer, Rank, read_char_constant, read_int_constant, read_integer};
+pub use characters::read_char_constant;
+pub use constants::{Integer, Rank, read_int_constant, read_integer};
 pub use hv_base::{CTok, IntType, Keyword, Punct};
 pub use macros::{Body, Meaning};
 pub use parted::{Failing, Parted};

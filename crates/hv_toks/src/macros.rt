@@ -9,8 +9,8 @@ pub enum Body {
     Object {
         body: List<PpTok>,
     },
-    /// A function-like macro: its parameters without `...`, whether it takes variable arguments, and
-    /// its replacement list.
+    /// A function-like macro: its parameters without `...`, whether it takes variable arguments,
+    /// and its replacement list.
     Function {
         params: List<Text>,
         variadic: bool,

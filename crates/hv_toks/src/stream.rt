@@ -12,7 +12,8 @@ use std::alloc::Global;
 pub struct StreamTok {
     pub tok: CTok,
     pub cond: Cond,
-    /// Where it comes from: two tokens of one configuration have one start exactly where they are one.
+    /// Where it comes from: two tokens of one configuration have one start exactly where they are
+    /// one.
     pub start: Start,
 }
 

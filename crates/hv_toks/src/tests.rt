@@ -20,7 +20,8 @@ fn start(alloc: Global, index: u64) -> Start {
 
 /// Two tokens: a name under the condition, and a semicolon under the other.
 fn two_tokens(alloc: Global, named: Cond, always: Cond) -> Result<Stream, AllocError>
-    ensures { IfOk result (λ stream. All (λ token. (token.cond ≡ named) ⊎ (token.cond ≡ always)) stream) }
+    ensures { IfOk result (λ stream. All (λ token. (token.cond ≡ named) ⊎
+        (token.cond ≡ always)) stream) }
 {
     let Ok(name) = Text::from_slice(alloc, b"x") else {
         return Err(AllocError);

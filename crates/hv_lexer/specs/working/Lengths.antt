@@ -11,7 +11,9 @@ one_more (suc n) = suc (suc n)
 abbrev pub begins_with_punctuator : ℕ → List ℕ → Bool
 begins_with_punctuator n text = nat_le n (length text) && is_punctuator (take n text)
 
--- the prefix of this length passes the test, and no longer one does; 0 where no prefix does but perhaps the empty one
+-- the prefix of this length passes the test, and no longer one does; 0 where no prefix does but
+-- perhaps the empty one
 abbrev pub IsLongest : (List ℕ → Bool) → List ℕ → ℕ → Type 0
 IsLongest test text n =
-    (0 < n → test (take n text) ≡ true) × ((k : ℕ) → n < k → k ≤ length text → test (take k text) ≡ false)
+    (0 < n → test (take n text) ≡ true)
+    × ((k : ℕ) → n < k → k ≤ length text → test (take k text) ≡ false)
