@@ -1,11 +1,17 @@
--- Laws of what a configuration keeps of a stream and of macro states, for proofs above.
+-- Laws of what a configuration keeps of a stream, of macro states, and of how an answer divides the
+-- configurations, for proofs above.
 use Rattle.std.specs.Prelude.{◌≡◌, ℕ, Bool, true, false, cond, List, [], ◌∷◌, ◌++◌, map, filter, if◌then◌else◌, refl}
 use Rattle.std.specs.List.{All}
 use Rattle.std.specs.Str.{bytes_eq}
-use Rattle.std.proofs.Common.{ap, ◌∙◌}
+use Rattle.std.proofs.Common.{ap, sym, ◌∙◌}
 use Rattle.std.proofs.lemmas.List.{map-append}
 use Rattle.std.proofs.lemmas.List.Elements.{All-cons, All-head, All-nil, All-tail}
-use Rattle.hv_cond.specs.Diagram.{Diagram, IsNode, Keeps, holds}
+use Rattle.hv_cond.specs.declared.conditions.Cond.{Cond}
+use Rattle.hv_cond.specs.Diagram.{Diagram, IsNever, IsNode, Keeps, holds}
+use Rattle.hv_cond.specs.Laws.{AllNodes-kept, NoneFalse-kept, count_satisfied-kept}
+use Rattle.hv_cond.specs.Parts.{IsPartition}
+use Rattle.hv_toks.specs.declared.parted.Failing.{Failing}
+use Rattle.hv_toks.specs.Division.{AreDistinct, Divides, conditions}
 use Rattle.hv_toks.specs.declared.stream.StreamTok.{StreamTok}
 use Rattle.hv_toks.specs.Macro.{Macro}
 use Rattle.hv_toks.specs.MacroState.{Entry, meaning_after, meaning_of}
@@ -97,3 +103,31 @@ pub meaning_of-add : (entries : List Entry) (entry : Entry) (name : List ℕ)
     → meaning_of (entries ++ entry ∷ []) name ≡
     (if bytes_eq entry.name name then entry.macro else meaning_of entries name)
 meaning_of-add entries entry name = meaning_after-append _ entries (entry ∷ []) name
+
+------ Divides
+
+-- a store that grows keeps how an answer divides the configurations
+pub Divides-kept : {old new : Diagram} → Keeps old new → (valid good : Cond) (failing : List Failing)
+    → IsNode old valid → Divides old valid good failing → Divides new valid good failing
+Divides-kept {old} {new} keeps valid good failing node h =
+    record {
+      nodes = AllNodes-kept keeps (good ∷ conditions failing) h.nodes;
+      none_false = NoneFalse-kept keeps (conditions failing) h.nodes.1 h.none_false;
+      one = λ values. count_satisfied-kept keeps (good ∷ conditions failing) h.nodes values
+          ∙ (h.one values ∙ ap (λ (x : Bool). cond x 1 0) (sym (keeps.meaning valid node values)));
+      distinct = h.distinct;
+    }
+
+-- an answer without failing configurations, and with some, divides them as the parts of a condition do
+pub Divides-partition : (diagram : Diagram) (valid good : Cond) (failing : List Failing)
+    → Divides diagram valid good failing → (¬ IsNever diagram good)
+    → IsPartition diagram valid (good ∷ conditions failing)
+Divides-partition diagram valid good failing h possible =
+    record { nodes = h.nodes; none_false = (possible, h.none_false); one = h.one }
+
+-- and back
+pub Divides-from_partition : (diagram : Diagram) (valid good : Cond) (failing : List Failing)
+    → IsPartition diagram valid (good ∷ conditions failing) → AreDistinct failing
+    → Divides diagram valid good failing
+Divides-from_partition diagram valid good failing p distinct =
+    record { nodes = p.nodes; none_false = p.none_false.1; one = p.one; distinct = distinct }
