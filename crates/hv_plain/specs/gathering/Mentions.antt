@@ -1,5 +1,5 @@
 -- The headers that a file mentions: those of its `#include` lines, also of lines in skipped groups.
-use Rattle.std.specs.Prelude.{ℕ, zero, suc, ◌-◌, Bool, true, false, cond, ◌&&◌, nat_eq, List, [], ◌∷◌, take, drop, length, slice_index}
+use Rattle.std.specs.Prelude.{ℕ, zero, suc, ◌-◌, Bool, true, false, ◌&&◌, nat_eq, filter, map, List, [], ◌∷◌, take, drop, length, slice_index}
 use Rattle.std.specs.List.{list_all, starts_with}
 use Rattle.hv_base.specs.Ascii as ascii
 use Rattle.hv_toks.specs.declared.prefix.Prefix.{Prefix}
@@ -62,8 +62,7 @@ is_mention tok = is_header_name tok.kind && list_all ascii.is_printable tok.text
 
 -- the headers that tokens mention, in order
 abbrev pub headers_in : List PpTok → List Header
-headers_in [] = []
-headers_in (tok ∷ toks) = cond (is_mention tok) (header_of tok.text ∷ headers_in toks) (headers_in toks)
+headers_in toks = map (λ tok. header_of tok.text) (filter is_mention toks)
 
 -- the headers that a cutting mentions: none where a comment isn't closed
 abbrev pub headers_of : Cutting → List Header

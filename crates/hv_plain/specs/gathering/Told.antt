@@ -1,5 +1,5 @@
 -- The bundle that the search finds in a told map of files.
-use Rattle.std.specs.Prelude.{ℕ, zero, suc, List, [], ◌∷◌, ◌++◌, cond, Option, None, Some}
+use Rattle.std.specs.Prelude.{ℕ, zero, suc, List, [], ◌∷◌, ◌++◌, cond, fold, Option, None, Some}
 use Rattle.std.specs.Map.{lookup}
 use Rattle.std.specs.Str.{bytes_eq}
 use Rattle.hv_base.specs.Ascii.{is_among}
@@ -68,15 +68,13 @@ look_up held name (candidate ∷ more) search =
 
 -- the search for each of these headers, which the file of this name mentions
 abbrev pub follow : (held : List ℕ → Option (List ℕ)) → (dirs : List (List ℕ)) → (file : List ℕ) → List Header → Search → Search
-follow held dirs file [] search = search
-follow held dirs file (header ∷ more) search =
-    follow held dirs file more (look_up held header.name (candidates dirs file header) search)
+follow held dirs file mentioned search =
+    fold (λ now header. look_up held header.name (candidates dirs file header) now) search mentioned
 
 -- the search for what each of these mentions
 abbrev pub follow_all : (held : List ℕ → Option (List ℕ)) → (dirs : List (List ℕ)) → List Reached → Search → Search
-follow_all held dirs [] search = search
-follow_all held dirs (reached ∷ more) search =
-    follow_all held dirs more (follow held dirs reached.name reached.mentioned search)
+follow_all held dirs all search =
+    fold (λ now reached. follow held dirs reached.name reached.mentioned now) search all
 
 -- breadth first: all that waits is gone through before what it mentions, which is one mention deeper; `n` times
 unfoldable pub deepen : (n : ℕ) → (held : List ℕ → Option (List ℕ)) → (dirs : List (List ℕ)) → Search → Search
