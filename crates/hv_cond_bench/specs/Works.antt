@@ -1,7 +1,7 @@
 -- The works of the clock.
 use Rattle.std.specs.Prelude.{ℕ}
 use Rattle.hv_cond_bench.specs.declared.works.Work.{Work}
-use Rattle.hv_cond_bench.specs.declared.works.Work.TheVariants.{Pairs, Queens, Chain, Same}
+use Rattle.hv_cond_bench.specs.declared.works.Work.TheVariants.{Pairs, Queens, Chain, Same, Deep}
 
 -- the greatest number that a work takes
 abbrev pub limit : Work → ℕ
@@ -9,3 +9,4 @@ limit Pairs = 1000
 limit Queens = 8
 limit Chain = 4000
 limit Same = 1000
+limit Deep = 4096

@@ -3,6 +3,7 @@
 #![tactic(auto)]
 
 mod branches;
+mod deep;
 mod pairs_and_chains;
 mod queens;
 mod works;

@@ -4,6 +4,7 @@ ghost use Rattle.hv_cond.specs.Diagram.{IsNode, Keeps};
 ghost use Rattle.hv_cond_bench.specs.Works.{limit};
 
 use crate::branches::count_branches;
+use crate::deep::deep;
 use crate::pairs_and_chains::{chain, pairs};
 use crate::queens::queens;
 use hv_cond::{Cond, Store};
@@ -23,6 +24,8 @@ pub enum Work {
     Chain,
     /// A conjunction of two conditions of `Pairs`, made again and again.
     Same,
+    /// The complement of the conjunction of all variables, by calls that go down all of them.
+    Deep,
 }
 
 impl Work {
@@ -33,6 +36,7 @@ impl Work {
             "queens" => Some(Work::Queens),
             "chain" => Some(Work::Chain),
             "same" => Some(Work::Same),
+            "deep" => Some(Work::Deep),
             _ => None,
         }
     }
@@ -44,6 +48,7 @@ impl Work {
             Work::Queens => "queens",
             Work::Chain => "chain",
             Work::Same => "same",
+            Work::Deep => "deep",
         }
     }
 
@@ -55,6 +60,7 @@ impl Work {
             Work::Pairs | Work::Same => 1000,
             Work::Queens => 8,
             Work::Chain => 4000,
+            Work::Deep => 4096,
         }
     }
 }
@@ -85,6 +91,11 @@ pub fn run(alloc: Global, work: Work, n: u32) -> Result<usize, AllocError>
         Work::Chain => {
             let mut store = Store::new(alloc, n + 1)?;
             let built = chain(&mut store, n)?;
+            count_branches(alloc, &store, built)
+        }
+        Work::Deep => {
+            let mut store = Store::new(alloc, n)?;
+            let built = deep(&mut store, n)?;
             count_branches(alloc, &store, built)
         }
         Work::Same => {
