@@ -1,6 +1,6 @@
--- The plain tree that definitions speak of, without pointers, and the plain tree of a tree. Lists grow at
--- their end. Read Expressions, then Statements; Erase and EraseStatements say what they are of the trees that
--- the code has.
+-- The plain tree that definitions speak of, without pointers, and the plain tree of a tree. Lists
+-- grow at their end. Read Expressions, then Statements; Erase and EraseStatements say what they are
+-- of the trees that the code has.
 pub mod Expressions
 pub mod Statements
 pub mod Erase

@@ -1,11 +1,9 @@
 -- What the machine makes of the tokens of an expression, production by production.
-use Rattle.std.proofs.Common.{◌≡◌, ℕ, zero, suc, ◌≤◌, Bool, true, false, cond, List, [], ◌∷◌, refl, sym, ap, ◌∙◌, arith, Option, Some, None, subst}
+use Rattle.std.proofs.Common.{◌≡◌, ℕ, suc, ◌≤◌, Bool, true, false, cond, List, [], ◌∷◌, refl, sym, ap, ◌∙◌, arith, Option, Some, subst}
 use Rattle.std.proofs.lemmas.Bool.Decides.{nat_tests}
 use Rattle.std.specs.Prelude.{nat_le}
 use Rattle.hv_base.specs.declared.place.Place.{Place}
-use Rattle.hv_base.specs.declared.keyword.Keyword.{Keyword}
 use Rattle.hv_base.specs.declared.keyword.Keyword.TheVariants as keywords
-use Rattle.hv_base.specs.declared.punct.Punct.{Punct}
 use Rattle.hv_base.specs.declared.punct.Punct.TheVariants as puncts
 use Rattle.hv_ctree.specs.declared.tree.words.AssignmentOperator.{AssignmentOperator}
 use Rattle.hv_ctree.specs.declared.tree.words.AssignmentOperator.TheVariants as assignments
@@ -18,11 +16,11 @@ use Rattle.hv_ctree.specs.declared.tree.words.Step.{Step as StepSign}
 use Rattle.hv_ctree.specs.declared.tree.words.Step.TheVariants.{Increment, Decrement}
 use Rattle.hv_ctree.specs.declared.tree.words.UnaryOperator.{UnaryOperator}
 use Rattle.hv_ctree.specs.declared.tree.words.UnaryOperator.TheVariants.{Address, Indirection, Plus, Minus, Complement, Not}
-use Rattle.hv_ctree.specs.tree.Expressions.{Expr, identifier, constant, string, parenthesized, subscript, call, member, postfix, prefix, unary, sizeof_expr, sizeof_type, cast, binary, conditional, assign, comma, Arguments, no_arguments, then_argument, TypeName, place_of}
+use Rattle.hv_ctree.specs.tree.Expressions.{Expr, identifier, constant, string, parenthesized, subscript, call, member, postfix, prefix, unary, sizeof_expr, binary, conditional, assign, comma, Arguments, no_arguments, then_argument, TypeName, place_of}
 use Rattle.hv_grammar.specs.Symbols.{Symbol, keyword, name, marked, number, text, sign, Role, outside, inside, operator, Marked, at, counted, token_at, left_paren, right_paren, left_bracket, right_bracket, comma_sign, colon, binary_sign, level, unary_sign, assignment_sign, selector_sign, step_sign}
 use Rattle.hv_grammar.specs.Symbols as symbols
-use Rattle.hv_grammar.specs.machine.Frames.{Frame, Parenthesis, AfterSizeof, Subscript, Callee, Calling, Prefix, Unary, Sizeof, SizeofType, CastType, Cast, Binary, Then, Else, Assign, Comma, hole, hole_of, made, weigh, depth, completes, plug, State, Want, Have, Selecting, Infix, by_operator, by_assignment, by_question, by_comma, by_bracket, by_parenthesis, left, reach, makes, begun, weigh_at}
-use Rattle.hv_grammar.specs.machine.Steps.{state, want, have, Taken, took, quiet, loud, lately, Reduced, reduced, reduce, operand_at, infix_of_level, goes_on, comma_at, close_at, bracket_at, colon_at, after, after_postfix, step, step_at, step_have, argument_at}
+use Rattle.hv_grammar.specs.machine.Frames.{Frame, Parenthesis, AfterSizeof, Subscript, Callee, Calling, Prefix, Unary, Sizeof, Cast, Binary, Then, Else, Assign, Comma, hole, hole_of, made, depth, completes, plug, State, Want, Selecting, Infix, by_operator, by_assignment, by_question, by_comma, by_bracket, by_parenthesis, left, reach, makes, begun, weigh_at}
+use Rattle.hv_grammar.specs.machine.Steps.{state, want, have, Taken, took, quiet, loud, lately, Reduced, reduced, reduce, operand_at, infix_of_level, goes_on, comma_at, close_at, bracket_at, colon_at, after, after_postfix, step, step_at, step_have}
 use Rattle.hv_grammar.specs.machine.Moves.{Takes, taken, taken_to_count, Moves, stays, takes}
 
 pub level-least : (op : BinaryOperator) → 3 ≤ level op

@@ -1,19 +1,19 @@
 -- The same of what stands at the middle of declarators and after it.
-use Rattle.std.proofs.Common.{◌≡◌, ℕ, zero, suc, ◌≤◌, Bool, true, false, cond, List, [], ◌∷◌, refl, sym, ap, ◌∙◌, arith, Option, Some, None, subst}
+use Rattle.std.proofs.Common.{◌≡◌, ℕ, suc, Bool, true, false, List, ◌∷◌, refl, ap, ◌∙◌}
 use Rattle.hv_base.specs.declared.place.Place.{Place}
 use Rattle.hv_base.specs.declared.keyword.Keyword.TheVariants as keywords
 use Rattle.hv_base.specs.declared.punct.Punct.{Punct}
 use Rattle.hv_base.specs.declared.punct.Punct.TheVariants as puncts
 use Rattle.hv_ctree.specs.declared.tree.words.TypeQualifier.{TypeQualifier}
 use Rattle.hv_ctree.specs.declared.tree.words.TypeQualifier.TheVariants.{Const, Restrict}
-use Rattle.hv_ctree.specs.tree.Expressions.{Expr, Specifiers, no_specifiers, Declarator, declarator, MayDeclarator, no_declarator, some_declarator, Core, nothing, named, group, Suffixes, no_suffixes, then_suffix, Suffix, unsized, sized, function, unprototyped, ParameterTypes, parameter_types, Parameters as ParameterList, no_parameters, then_parameter, Parameter, parameter, Pointers, no_pointers, then_pointer, Qualifiers, no_qualifiers, then_qualifier}
-use Rattle.hv_grammar.specs.Symbols.{Symbol, keyword, name, marked, number, text, sign, hole, foreign, Role, outside, inside, operator, Marked, at, token_at, BeginsAt, at_first, left_paren, right_paren, left_bracket, right_bracket, comma_sign, qualifier_word}
+use Rattle.hv_ctree.specs.tree.Expressions.{no_specifiers, declarator, MayDeclarator, some_declarator, Core, nothing, named, Suffixes, no_suffixes, then_suffix, unprototyped, no_parameters, Pointers, no_pointers, then_pointer, Qualifiers, no_qualifiers, then_qualifier}
+use Rattle.hv_grammar.specs.Symbols.{Symbol, keyword, name, number, text, sign, Role, Marked, at, BeginsAt, at_first, left_paren, right_paren, left_bracket, qualifier_word}
 use Rattle.hv_grammar.specs.Expressions.{Naming, with_name, without_name, stars, has_part, ReadsQualifiers, r_no_qualifiers, r_qualifiers}
-use Rattle.hv_grammar.specs.machine.Frames.{Owner, of_type_name, of_parameter, of_member, Mode, only_named, only_abstract, either, Frame, Owned, OwnedMembers, Group, Length, Parameters, depth, within, State, Pointing, Opened, Direct, Bracket, ParametersStart, ParameterNext, AfterEllipsis}
-use Rattle.hv_grammar.specs.machine.Steps.{state, want, Taken, took, plainly, operand_at, specifier_at, step_pointing, ended, begins, may_name, may_lack_name, only_pointers, bracket_at, after, reduce, step_at}
-use Rattle.hv_grammar.specs.machine.Moves.{Takes, Moves, stays, takes}
-use Rattle.hv_grammar.proofs.Arriving.{joined, one, Entry, begins_operand, Arrives, steps}
-use Rattle.hv_grammar.proofs.ArrivingTypes.{steps_as, first_of, no_brace, Spec, begins_declarator, ends_declarator, Pointed, Bare, has_pointer, any_place, pointed_at, bare_at, PointedAt}
+use Rattle.hv_grammar.specs.machine.Frames.{of_parameter, Mode, only_named, only_abstract, either, Frame, Group, Length, Parameters, depth, within, State, Pointing, Opened, Direct, Bracket, ParametersStart}
+use Rattle.hv_grammar.specs.machine.Steps.{state, plainly, operand_at, step_pointing, ended, begins, may_name, may_lack_name, only_pointers, step_at}
+use Rattle.hv_grammar.specs.machine.Moves.{Takes, Moves, stays}
+use Rattle.hv_grammar.proofs.Arriving.{joined, one, Entry, begins_operand}
+use Rattle.hv_grammar.proofs.ArrivingTypes.{steps_as, Spec, begins_declarator, ends_declarator, Pointed, Bare, has_pointer, pointed_at}
 
 -- whether a declarator of the kind may stand there
 abbrev pub fits_mode : Naming → Mode → Bool

@@ -1,9 +1,6 @@
 -- What the machine makes of the tokens of specifiers and declarators, production by production.
-use Rattle.std.proofs.Common.{◌≡◌, ℕ, zero, suc, ◌≤◌, Bool, true, false, cond, List, [], ◌∷◌, refl, sym, ap, ◌∙◌, arith, Option, Some, None, subst}
-use Rattle.std.proofs.lemmas.Bool.Decides.{nat_tests}
-use Rattle.std.specs.Prelude.{nat_le}
+use Rattle.std.proofs.Common.{◌≡◌, ℕ, suc, Bool, true, false, List, [], ◌∷◌, refl, sym, ap, ◌∙◌, Option}
 use Rattle.hv_base.specs.declared.place.Place.{Place}
-use Rattle.hv_base.specs.declared.keyword.Keyword.{Keyword}
 use Rattle.hv_base.specs.declared.keyword.Keyword.TheVariants as keywords
 use Rattle.hv_base.specs.declared.punct.Punct.{Punct}
 use Rattle.hv_base.specs.declared.punct.Punct.TheVariants as puncts
@@ -13,13 +10,13 @@ use Rattle.hv_ctree.specs.declared.tree.words.StructOrUnion.{StructOrUnion}
 use Rattle.hv_ctree.specs.declared.tree.words.StructOrUnion.TheVariants.{Struct, Union}
 use Rattle.hv_ctree.specs.declared.tree.words.TypeQualifier.{TypeQualifier}
 use Rattle.hv_ctree.specs.declared.tree.words.TypeQualifier.TheVariants.{Const, Restrict}
-use Rattle.hv_ctree.specs.tree.Expressions.{Expr, Specifiers, no_specifiers, then_specifier, Specifier, storage, of_type, qualifier, inline, TypeSpecifier, word, compound, enumeration, typedef_name, CompoundSpecifier, defined, mentioned, MayTag, no_tag, tag, Members, no_members, then_member, MemberDeclaration, members_of, Declarators, no_declarators, then_declarator, EnumSpecifier, listed, listed_before, Enumerators, no_enumerators, then_enumerator, Enumerator, plain, valued, Declarator, declarator, MayDeclarator, no_declarator, some_declarator, Core, nothing, named, group, Suffixes, no_suffixes, then_suffix, Suffix, unsized, sized, function, unprototyped, ParameterTypes, parameter_types, Parameters as ParameterList, no_parameters, then_parameter, Parameter, parameter, Pointers, no_pointers, then_pointer, Qualifiers, no_qualifiers, then_qualifier, TypeWord, void_word, char_word, short_word, int_word, long_word, signed_word, unsigned_word, bool_word}
-use Rattle.hv_grammar.specs.Symbols.{Symbol, keyword, name, marked, number, text, sign, hole, foreign, Role, outside, inside, operator, Marked, at, token_at, BeginsAt, at_first, left_paren, right_paren, left_bracket, right_bracket, left_brace, right_brace, comma_sign, semicolon, equal_sign, storage_word, qualifier_word, compound_word, type_word}
-use Rattle.hv_grammar.specs.Expressions.{Words as WordKind, all_words, type_words, Naming, with_name, without_name, has_type, stars, braced, type_place, compound_place, enumeration_place, ReadsSpecifier, r_storage, r_inline, r_qualifier, r_type, ReadsType, r_word, r_compound, r_enumeration, r_typedef_name, ReadsCompound, r_defined, r_mentioned, ReadsEnumeration, r_listed, r_listed_before, ReadsQualifiers, r_no_qualifiers, r_qualifiers, ReadsPointers, r_no_pointers, r_pointer}
-use Rattle.hv_grammar.specs.machine.Frames.{Owner, of_type_name, of_parameter, of_member, Mode, only_named, only_abstract, either, Frame, Parenthesis, AfterSizeof, Sizeof, SizeofType, CastType, Specified, Body, Listing, Valued, Owned, OwnedMembers, Group, Length, Parameters, hole_of, depth, within, State, Want, Words, AfterCompound, AfterTag, AfterEnum, AfterEnumTag, MemberStart, EnumeratorStart, AfterEnumerator, Pointing, Opened, Direct, Bracket, ParametersStart, ParameterNext, AfterEllipsis}
-use Rattle.hv_grammar.specs.machine.Steps.{state, want, Taken, took, lately, plainly, operand_at, specifier_at, words_ended, step_words, step_pointing, ended, begins, may_name, may_lack_name, only_pointers, step, step_at, ellipsis_at, body_ended}
+use Rattle.hv_ctree.specs.tree.Expressions.{Specifiers, then_specifier, Specifier, storage, of_type, qualifier, inline, word, compound, enumeration, typedef_name, mentioned, no_declarators, listed_before, declarator, some_declarator, nothing, no_suffixes, Pointers, no_pointers, then_pointer, Qualifiers, no_qualifiers, then_qualifier, TypeWord, void_word, char_word, short_word, int_word, long_word, signed_word, unsigned_word, bool_word}
+use Rattle.hv_grammar.specs.Symbols.{Symbol, keyword, name, marked, sign, Role, Marked, at, BeginsAt, at_first, storage_word, qualifier_word, compound_word, type_word}
+use Rattle.hv_grammar.specs.Expressions.{Words as WordKind, all_words, type_words, has_type, stars, ReadsQualifiers, r_no_qualifiers, r_qualifiers, ReadsPointers, r_no_pointers, r_pointer}
+use Rattle.hv_grammar.specs.machine.Frames.{Owner, of_type_name, of_parameter, of_member, Mode, only_named, only_abstract, either, Frame, Specified, Owned, OwnedMembers, depth, within, State, Words, AfterCompound, AfterTag, AfterEnum, AfterEnumTag, Pointing}
+use Rattle.hv_grammar.specs.machine.Steps.{state, Taken, took, plainly, specifier_at, words_ended, step_words, step_pointing, ended, begins, may_lack_name, only_pointers, step_at}
 use Rattle.hv_grammar.specs.machine.Moves.{Takes, taken, Moves, stays, takes}
-use Rattle.hv_grammar.proofs.Arriving.{joined, one, Entry, begins_operand}
+use Rattle.hv_grammar.proofs.Arriving.{joined, one}
 
 -- a step whose marks are as the machine says
 pub steps_as : {m n : State} {r s : Role} {d e : ℕ} (p : Place) (t : Symbol) → step_at m.stack m.at p t ≡ took s n e → r ≡ s → d ≡ e → Takes m false (at r d p t) n false

@@ -1,5 +1,5 @@
 -- The machine reads what the grammar derives, with the same tree.
-use Rattle.std.proofs.Common.{◌≡◌, ℕ, zero, suc, ◌≤◌, Bool, true, false, cond, List, [], ◌∷◌, refl, sym, ap, ◌∙◌, arith, Option, Some, None, subst}
+use Rattle.std.proofs.Common.{◌≡◌, ℕ, suc, ◌≤◌, Bool, true, false, List, ◌∷◌, refl, sym, ap, ◌∙◌, arith, Option, None, subst}
 use Rattle.std.proofs.lemmas.Bool.Decides.{nat_tests}
 use Rattle.std.specs.Prelude.{nat_le}
 use Rattle.hv_base.specs.declared.place.Place.{Place}
@@ -7,16 +7,16 @@ use Rattle.hv_base.specs.declared.keyword.Keyword.TheVariants as keywords
 use Rattle.hv_base.specs.declared.punct.Punct.{Punct}
 use Rattle.hv_base.specs.declared.punct.Punct.TheVariants as puncts
 use Rattle.hv_ctree.specs.declared.tree.words.StructOrUnion.{StructOrUnion}
-use Rattle.hv_ctree.specs.tree.Expressions.{Expr, sizeof_type, cast, Arguments, TypeName, type_name, Specifiers, no_specifiers, then_specifier, Specifier, of_type, TypeSpecifier, compound, enumeration, CompoundSpecifier, defined, mentioned, MayTag, no_tag, tag, Members, no_members, then_member, MemberDeclaration, members_of, Declarators, no_declarators, then_declarator, EnumSpecifier, listed, listed_before, Enumerators, no_enumerators, then_enumerator, Enumerator, plain, valued, Declarator, declarator, MayDeclarator, no_declarator, some_declarator, Core, nothing, named, group, Suffixes, no_suffixes, then_suffix, Suffix, unsized, sized, function, unprototyped, ParameterTypes, parameter_types, Parameters as ParameterList, no_parameters, then_parameter, Parameter, parameter, Pointers, no_pointers}
+use Rattle.hv_ctree.specs.tree.Expressions.{Expr, sizeof_type, Arguments, TypeName, type_name, Specifiers, no_specifiers, then_specifier, Specifier, of_type, TypeSpecifier, compound, enumeration, CompoundSpecifier, defined, MayTag, Members, no_members, then_member, MemberDeclaration, members_of, Declarators, no_declarators, then_declarator, EnumSpecifier, listed, Enumerators, no_enumerators, then_enumerator, Enumerator, Declarator, MayDeclarator, some_declarator, Core, group, Suffixes, no_suffixes, then_suffix, Suffix, unsized, sized, function, unprototyped, ParameterTypes, parameter_types, Parameters as ParameterList, no_parameters, then_parameter, Parameter, Pointers, no_pointers}
 use Rattle.hv_grammar.specs.Symbols.{Symbol, keyword, name, sign, Role, outside, inside, operator, Marked, at, counted, token_at, BeginsAt, at_first, left_paren, right_paren, left_bracket, right_bracket, left_brace, right_brace, comma_sign, semicolon, equal_sign, level}
 use Rattle.hv_grammar.specs.Symbols as symbols
-use Rattle.hv_grammar.specs.Expressions.{Words as WordKind, Naming, with_name, without_name, has_type, stars, braced, type_place, compound_place, enumeration_place, Reads, r_identifier, r_constant, r_string, r_parenthesized, r_subscript, r_call_none, r_call, r_member, r_postfix, r_prefix, r_unary, r_sizeof, r_sizeof_type, r_cast, r_binary, r_conditional, r_assign, r_comma, r_higher, ReadsArguments, r_argument, r_arguments, ReadsTypeName, r_type_name, ReadsSpecifiers, r_specifier, r_specifiers, ReadsSpecifier, r_storage, r_inline, r_qualifier, r_type, ReadsType, r_word, r_compound, r_enumeration, r_typedef_name, ReadsCompound, r_defined, r_mentioned, ReadsTag, r_no_tag, r_tag, ReadsMembers, r_member_first, r_members, ReadsMember, r_members_of, ReadsDeclarators, r_declarator_first, r_declarators, ReadsEnumeration, r_listed, r_listed_before, ReadsEnumerators, r_enumerator, r_enumerators, ReadsEnumerator, r_plain, r_valued, ReadsLastComma, r_no_comma, r_last_comma, ReadsDeclarator, r_declarator, ReadsDirect, r_core, r_suffix, ReadsCore, r_nothing, r_named, r_group, ReadsSuffix, r_unsized, r_sized, r_function, r_unprototyped, ReadsParameterTypes, r_fixed, r_variadic, ReadsParameters, r_parameter, r_parameters, ReadsParameter, r_parameter_named, r_parameter_abstract, ReadsAbstract, r_no_declarator, r_abstract}
-use Rattle.hv_grammar.specs.machine.Frames.{Owner, of_type_name, of_parameter, of_member, Mode, only_named, only_abstract, either, Frame, Parenthesis, AfterSizeof, Subscript, Callee, Calling, Prefix, Unary, Sizeof, SizeofType, CastType, Cast, Binary, Then, Else, Assign, Comma, Specified, Body, Listing, Valued, Owned, OwnedMembers, Group, Length, Parameters, hole_of, depth, within, State, Words, AfterCompound, AfterTag, AfterEnum, AfterEnumTag, MemberStart, EnumeratorStart, AfterEnumerator, Pointing, Direct, Bracket, ParameterNext, AfterEllipsis, by_operator, by_assignment, by_question, by_comma, by_bracket, by_parenthesis}
-use Rattle.hv_grammar.specs.machine.Steps.{state, want, have, Taken, took, quiet, loud, plainly, operand_at, ended, begins, may_name, may_lack_name, only_pointers, bracket_at, brace_at, comma_at, after, listed_at, listing_ended, body_ended, ellipsis_at, step, step_at}
-use Rattle.hv_grammar.specs.machine.Moves.{Takes, taken, Moves, stays, takes}
-use Rattle.hv_grammar.proofs.Arriving.{level-most, joined, one, steps, Entry, entered, want_prefix, want_unary, want_sizeof, want_cast, want_then, want_calling, want_begun, want_nothing, Arrives, arrives_sized, arrives_higher, arrives_completed, arrives_identifier, arrives_constant, arrives_string, opens_paren, arrives_paren, arrives_subscript, arrives_call_none, ArrivesArguments, arrives_first, arrives_next, arrives_call, arrives_member, arrives_postfix, arrives_prefix, arrives_unary, arrives_sizeof, arrives_binary, arrives_conditional, arrives_assign, arrives_comma}
-use Rattle.hv_grammar.proofs.ArrivingTypes.{steps_as, first_of, same_begin, Spec, Like, like_words, like_spec, Worded, Suits, suits_all, suits_type_name, suits_member, arrives_storage, arrives_inline, arrives_qualifier, arrives_word, arrives_typedef_name, compound_begun, enum_begun, like_mentioned, like_listed_before, Pointed, Bare, has_pointer, pointed_at, mode_of, owned, like_pointed, like_bare, ends_declarator, PointedAt, arrives_pointers}
-use Rattle.hv_grammar.proofs.ArrivingDeclarators.{fits_mode, DirectLike, is_bare, AfterOpen, opening, bracketed, arrives_bracket_qualifiers, want_length, DirectAt, arrives_middle, arrives_named, grouping, Declared, direct_declared}
+use Rattle.hv_grammar.specs.Expressions.{Words as WordKind, Naming, has_type, stars, braced, type_place, compound_place, enumeration_place, Reads, r_identifier, r_constant, r_string, r_parenthesized, r_subscript, r_call_none, r_call, r_member, r_postfix, r_prefix, r_unary, r_sizeof, r_sizeof_type, r_cast, r_binary, r_conditional, r_assign, r_comma, r_higher, ReadsArguments, r_argument, r_arguments, ReadsTypeName, r_type_name, ReadsSpecifiers, r_specifier, r_specifiers, ReadsSpecifier, r_storage, r_inline, r_qualifier, r_type, ReadsType, r_word, r_compound, r_enumeration, r_typedef_name, ReadsCompound, r_defined, r_mentioned, ReadsTag, r_no_tag, r_tag, ReadsMembers, r_member_first, r_members, ReadsMember, r_members_of, ReadsDeclarators, r_declarator_first, r_declarators, ReadsEnumeration, r_listed, r_listed_before, ReadsEnumerators, r_enumerator, r_enumerators, ReadsEnumerator, r_plain, r_valued, ReadsLastComma, r_no_comma, r_last_comma, ReadsDeclarator, r_declarator, ReadsDirect, r_core, r_suffix, ReadsCore, r_nothing, r_named, r_group, ReadsSuffix, r_unsized, r_sized, r_function, r_unprototyped, ReadsParameterTypes, r_fixed, r_variadic, ReadsParameters, r_parameter, r_parameters, ReadsParameter, r_parameter_named, r_parameter_abstract, ReadsAbstract, r_no_declarator, r_abstract}
+use Rattle.hv_grammar.specs.machine.Frames.{Owner, of_type_name, of_parameter, of_member, Mode, only_named, either, Frame, Parenthesis, AfterSizeof, Subscript, Callee, Calling, Prefix, Unary, Sizeof, SizeofType, CastType, Cast, Binary, Then, Else, Assign, Comma, Specified, Body, Listing, Valued, Owned, OwnedMembers, Group, Length, Parameters, hole_of, depth, within, State, Words, AfterCompound, AfterTag, AfterEnum, AfterEnumTag, MemberStart, EnumeratorStart, AfterEnumerator, Pointing, Direct, Bracket, ParameterNext, AfterEllipsis, by_operator, by_assignment, by_question, by_comma, by_bracket, by_parenthesis}
+use Rattle.hv_grammar.specs.machine.Steps.{state, want, have, Taken, quiet, loud, plainly, operand_at, ended, begins, may_lack_name, only_pointers, bracket_at, brace_at, comma_at, after, listed_at, body_ended, ellipsis_at, step_at}
+use Rattle.hv_grammar.specs.machine.Moves.{Moves, stays, takes}
+use Rattle.hv_grammar.proofs.Arriving.{joined, one, steps, Entry, entered, want_prefix, want_unary, want_sizeof, want_cast, want_then, want_calling, want_begun, Arrives, arrives_sized, arrives_higher, arrives_completed, arrives_identifier, arrives_constant, arrives_string, opens_paren, arrives_paren, arrives_subscript, arrives_call_none, ArrivesArguments, arrives_first, arrives_next, arrives_call, arrives_member, arrives_postfix, arrives_prefix, arrives_unary, arrives_sizeof, arrives_binary, arrives_conditional, arrives_assign, arrives_comma}
+use Rattle.hv_grammar.proofs.ArrivingTypes.{steps_as, same_begin, Spec, Like, like_words, like_spec, Worded, Suits, suits_all, suits_type_name, suits_member, arrives_storage, arrives_inline, arrives_qualifier, arrives_word, arrives_typedef_name, compound_begun, enum_begun, like_mentioned, like_listed_before, Pointed, Bare, has_pointer, pointed_at, mode_of, owned, like_pointed, like_bare, ends_declarator, arrives_pointers}
+use Rattle.hv_grammar.proofs.ArrivingDeclarators.{fits_mode, is_bare, AfterOpen, opening, bracketed, arrives_bracket_qualifiers, want_length, DirectAt, arrives_middle, arrives_named, grouping, Declared, direct_declared}
 
 -- the same machine before a phrase that begins at the place
 spec_for : {m : State} {o : Owner} {p : Place} {xs : Specifiers} {st : List Frame} {ts : List Marked} → Spec m o p xs st p → BeginsAt p ts → (q : Place) → BeginsAt q ts → Spec m o p xs st q

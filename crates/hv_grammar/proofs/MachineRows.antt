@@ -1,17 +1,15 @@
 -- Rows: what the machine answers to some tokens.
-use Rattle.std.proofs.Common.{◌≡◌, ℕ, zero, suc, List, [], ◌∷◌, ◌++◌, true, false, Some, None, refl}
+use Rattle.std.proofs.Common.{◌≡◌, ℕ, zero, suc, List, [], ◌∷◌, true, false, refl}
 use Rattle.std.specs.Prelude.{codes}
 use Rattle.hv_base.specs.declared.place.Place.{Place}
 use Rattle.hv_base.specs.declared.keyword.Keyword.TheVariants as keywords
 use Rattle.hv_base.specs.declared.punct.Punct.TheVariants as puncts
-use Rattle.hv_base.specs.declared.token.IntType.TheVariants as kinds
 use Rattle.hv_base.specs.declared.why.Why.TheVariants.{Syntax, TooDeep}
 use Rattle.hv_ctree.specs.declared.tree.words.AssignmentOperator.TheVariants.{Plain}
 use Rattle.hv_ctree.specs.declared.tree.words.BinaryOperator.TheVariants as binaries
-use Rattle.hv_ctree.specs.declared.tree.words.Constant.TheVariants.{Integer}
 use Rattle.hv_ctree.specs.declared.tree.words.UnaryOperator.TheVariants.{Indirection}
-use Rattle.hv_ctree.specs.tree.Expressions.{Expr, identifier, unary, cast, sizeof_type, binary, assign, comma, call, no_arguments, then_argument, type_name, no_specifiers, then_specifier, of_type, word, int_word, typedef_name, no_pointers, then_pointer, no_qualifiers, no_declarator, some_declarator, declarator, nothing, group, no_suffixes, then_suffix, function, unsized, parameter_types, no_parameters, then_parameter, parameter, enumeration, listed, no_tag, no_enumerators, then_enumerator, plain}
-use Rattle.hv_grammar.specs.Symbols.{Symbol, keyword, name, marked, number, text, sign, Token, token_at, left_paren, right_paren, left_bracket, right_bracket, left_brace, right_brace, comma_sign, colon, semicolon, equal_sign}
+use Rattle.hv_ctree.specs.tree.Expressions.{identifier, unary, cast, sizeof_type, binary, assign, comma, call, no_arguments, then_argument, type_name, no_specifiers, then_specifier, of_type, word, int_word, typedef_name, no_pointers, then_pointer, no_qualifiers, no_declarator, some_declarator, declarator, nothing, group, no_suffixes, then_suffix, function, parameter_types, no_parameters, then_parameter, parameter, enumeration, listed, no_tag, no_enumerators, then_enumerator, plain}
+use Rattle.hv_grammar.specs.Symbols.{Symbol, keyword, name, marked, sign, Token, token_at, left_paren, right_paren, left_bracket, right_bracket, left_brace, right_brace, comma_sign, colon, semicolon, equal_sign}
 use Rattle.hv_grammar.specs.Refusal.{Limits, source_limits}
 use Rattle.hv_grammar.specs.machine.Steps.{want}
 use Rattle.hv_grammar.specs.machine.Answers.{Answer, Accepted, Refused, answer}

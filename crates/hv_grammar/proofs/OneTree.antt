@@ -1,12 +1,12 @@
 -- Tokens have one tree: the machine is a function of them, and reads what they derive.
-use Rattle.std.proofs.Common.{◌≡◌, ℕ, Bool, true, false, List, [], ◌∷◌, map, refl, sym, ap, ◌∙◌, arith, Option, Some, None, subst}
+use Rattle.std.proofs.Common.{◌≡◌, Bool, false, List, [], ◌∷◌, map, refl, sym, ap, ◌∙◌, arith, Option, Some, None}
 use Rattle.hv_ctree.specs.tree.Expressions.{Expr}
 use Rattle.hv_grammar.specs.Symbols.{Token, Marked}
 use Rattle.hv_grammar.specs.Expressions.{Reads}
 use Rattle.hv_grammar.specs.machine.Frames.{State}
 use Rattle.hv_grammar.specs.machine.Steps.{Taken, want, after_end, step, finished}
-use Rattle.hv_grammar.specs.machine.Moves.{Takes, taken, taken_to_count, Moves, stays, takes}
-use Rattle.hv_grammar.proofs.Arriving.{want_nothing, Arrives}
+use Rattle.hv_grammar.specs.machine.Moves.{taken, taken_to_count, Moves, stays, takes}
+use Rattle.hv_grammar.proofs.Arriving.{want_nothing}
 use Rattle.hv_grammar.proofs.Completeness.{read_expression}
 
 -- the machine has read all tokens and may end with the tree

@@ -1,4 +1,5 @@
--- The grammar as a whole: which tokens derive which element, which derive which program, and their first refusal.
+-- The grammar as a whole: which tokens derive which element, which derive which program, and their
+-- first refusal.
 use Rattle.std.specs.Prelude.{◌≡◌, ℕ, Bool, true, false, List, [], ◌∷◌, codes, cond, map}
 use Rattle.std.specs.Str.{bytes_eq}
 use Rattle.hv_base.specs.declared.token.CTok.{CTok}
@@ -12,11 +13,14 @@ use Rattle.hv_grammar.specs.Programs.{ReadsExternals}
 use Rattle.hv_grammar.specs.Scopes.{IsMarked}
 use Rattle.hv_grammar.specs.Refusal.{Limits, KeepsLimits, Refuses}
 
--- the names that are no identifiers of the profile: those of the predefined macros, which preprocessing always
--- replaces, and those that it leaves out
+-- the names that are no identifiers of the profile: those of the predefined macros, which
+-- preprocessing always replaces, and those that it leaves out
 abbrev pub foreign_names : List (List ℕ)
-foreign_names = codes "__STDC__" ∷ codes "__STDC_HOSTED__" ∷ codes "__STDC_VERSION__" ∷ codes "__func__" ∷ codes "asm"
-    ∷ codes "__FILE__" ∷ codes "__LINE__" ∷ codes "__DATE__" ∷ codes "__TIME__" ∷ codes "_Pragma" ∷ codes "goto"
+foreign_names =
+    codes "__STDC__" ∷ codes "__STDC_HOSTED__" ∷ codes "__STDC_VERSION__" ∷ codes "__func__"
+    ∷ codes "asm"
+    ∷ codes "__FILE__" ∷ codes "__LINE__" ∷ codes "__DATE__" ∷ codes "__TIME__" ∷ codes "_Pragma"
+    ∷ codes "goto"
     ∷ codes "float" ∷ codes "double" ∷ codes "volatile" ∷ codes "_Complex" ∷ codes "_Imaginary" ∷ []
 
 -- whether a name is among others
@@ -44,11 +48,12 @@ pub record WholeElement (s : Standing) (ts : List Marked) : Type 0 where
   pub reads : ReadsElement s ts [] tree
 
 -- an element's own tokens derive this tree
-pub record DerivesElement (l : Limits) (s : Standing) (ts : List Token) (k : Skeleton) : Type 0 where
-  pub first : List Marked
-  pub tokens : map (λ t. t.token) first ≡ ts
-  pub reads : ReadsElement s first [] k
-  pub limits : KeepsLimits l 0 first
+pub record DerivesElement (l : Limits) (s : Standing) (ts : List Token) (k : Skeleton) : Type 0
+  where
+    pub first : List Marked
+    pub tokens : map (λ t. t.token) first ≡ ts
+    pub reads : ReadsElement s first [] k
+    pub limits : KeepsLimits l 0 first
 
 -- the first refusal of an element's own tokens
 abbrev pub RefusesElement : Limits → Standing → List Token → ℕ → Why → Type 0
@@ -63,7 +68,8 @@ plain_symbol s = s
 abbrev pub given : Marked → Token
 given t = token_at t.token.place (plain_symbol t.token.symbol)
 
--- a program's tokens are read whole, and its marks of typedef names are those of the declarations in scope
+-- a program's tokens are read whole, and its marks of typedef names are those of the declarations
+-- in scope
 pub record WholeProgram (ts : List Marked) : Type 0 where
   pub tree : Program
   pub reads : ReadsExternals ts tree.externals

@@ -9,7 +9,8 @@ use Rattle.hv_grammar.specs.Tokens.{tokens_of, own_tokens}
 
 -- the tokens that an expression was read from are those of its tree
 abbrev pub ExpressionsKeepTokens : Type 0
-ExpressionsKeepTokens = (d k : ℕ) (ts : List Marked) (a : Expr) → Reads d k ts [] a → map (λ t. t.token.symbol) ts ≡ tokens_of a
+ExpressionsKeepTokens = (d k : ℕ) (ts : List Marked) (a : Expr) → Reads d k ts [] a
+    → map (λ t. t.token.symbol) ts ≡ tokens_of a
 
 -- the tokens that an element was read from are its tree's own tokens
 abbrev pub ElementsKeepTokens : Type 0
@@ -18,5 +19,6 @@ ElementsKeepTokens = (s : Standing) (ts : List Marked) (k : Skeleton) → ReadsE
 
 -- tokens are one expression at most, whatever their marks: its grammar is unambiguous
 abbrev pub ExpressionsHaveOneTree : Type 0
-ExpressionsHaveOneTree = (ts us : List Marked) (a b : Expr) → map (λ t. t.token) ts ≡ map (λ t. t.token) us
+ExpressionsHaveOneTree = (ts us : List Marked) (a b : Expr)
+    → map (λ t. t.token) ts ≡ map (λ t. t.token) us
     → Reads 0 0 ts [] a → Reads 0 0 us [] b → a ≡ b

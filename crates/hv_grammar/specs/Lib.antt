@@ -1,5 +1,5 @@
--- The grammar of the profile. Read Symbols, Expressions, Elements, Programs, then Scopes, Refusal and Grammar; Tokens says
--- which tokens a tree has.
+-- The grammar of the profile. Read Symbols, Expressions, Elements, Programs, then Scopes, Refusal
+-- and Grammar; Tokens says which tokens a tree has.
 pub mod Symbols
 pub mod Expressions
 pub mod Elements

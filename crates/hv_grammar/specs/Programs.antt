@@ -1,6 +1,6 @@
--- Whole programs: elements whose holes are filled, in order, by whole elements (6.8, 6.9). Each token of a
--- statement has the number of statements that are open at it as its mark, the statement itself included; a
--- function's body counts as one for what stands in it.
+-- Whole programs: elements whose holes are filled, in order, by whole elements (6.8, 6.9). Each
+-- token of a statement has the number of statements that are open at it as its mark, the statement
+-- itself included; a function's body counts as one for what stands in it.
 use Rattle.std.specs.Prelude.{ℕ, suc, Bool, true, false, List, [], ◌∷◌, Option, Some, None, ◌≡◌, IsTrue}
 use Rattle.hv_base.specs.declared.place.Place.{Place}
 use Rattle.hv_ctree.specs.tree.Statements.{Stmt, case_of, default_of, compound, expression, if_only, if_else, switch, while_do, do_while, for_expressions, for_declaration, continue_loop, break_out, return_with, Items, no_items, then_item, Item, declares, does, function_definition, External, defines, declares_outside, empty, Declaration, Skeleton, hollow_empty, hollow_declaration, hollow_function, hollow_case, hollow_default, hollow_compound, hollow_expression, hollow_if, hollow_if_else, hollow_switch, hollow_while, hollow_do_while, hollow_for, hollow_for_declaration, hollow_continue, hollow_break, hollow_return}
@@ -13,8 +13,8 @@ pub data Child : Type 0 where
   a_statement : Stmt → Child
   a_list : Items → Child
 
--- the statement of a skeleton whose holes are filled; none where the skeleton is no statement's, or the
--- children are not what it asks for
+-- the statement of a skeleton whose holes are filled; none where the skeleton is no statement's, or
+-- the children are not what it asks for
 abbrev pub filled : Skeleton → List Child → Option Stmt
 filled (hollow_case p a h) (a_statement s ∷ []) = Some (case_of p a s)
 filled (hollow_default p h) (a_statement s ∷ []) = Some (default_of p s)
@@ -44,7 +44,8 @@ ends_open (for_expressions p a b c s) = ends_open s
 ends_open (for_declaration p g b c s) = ends_open s
 ends_open _ = false
 
--- an `else` belongs to the nearest `if` (6.8.4.1): what stands between an `if` and its `else` is closed
+-- an `else` belongs to the nearest `if` (6.8.4.1): what stands between an `if` and its `else` is
+-- closed
 abbrev pub keeps_else : Stmt → Bool
 keeps_else (if_else p a s t) = closed (ends_open s) where
   closed : Bool → Bool
@@ -115,7 +116,8 @@ pub data ReadsExternal : List Marked → List Marked → External → Type 0 whe
       → Fills 0 ts [] ws vs
       → ReadsExternal ws vs (declares_outside p g)
   -- 6.9.1; the header has the count of the body that it begins
-  r_defines : {ts ws vs : List Marked} {p q : Place} {xs : Specifiers} {x : Declarator} {items : Items} (h : ℕ)
+  r_defines : {ts ws vs : List Marked} {p q : Place} {xs : Specifiers} {x : Declarator}
+      {items : Items} (h : ℕ)
       → ReadsElement Outside ts [] (hollow_function p xs x q h)
       → Fills 1 ts (a_list items ∷ []) ws vs
       → ReadsExternal ws vs (defines p (function_definition p xs x (compound q items)))

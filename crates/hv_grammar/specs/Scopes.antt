@@ -1,9 +1,10 @@
--- Which names are typedef names by a tree's own declarations (6.2.1, 6.7.7): whether each mark that the tree
--- has is the one that the declarations in scope give. A function here goes over a part of a tree from the left
--- with the names in scope, and answers the names in scope after it, or none where a mark is wrong. A scope
--- ends by going back to the names before it.
+-- Which names are typedef names by a tree's own declarations (6.2.1, 6.7.7): whether each mark that
+-- the tree has is the one that the declarations in scope give. A function here goes over a part of
+-- a tree from the left with the names in scope, and answers the names in scope after it, or none
+-- where a mark is wrong. A scope ends by going back to the names before it.
 --
--- Not in here: tags and members, which are never typedef names, and whether a second declaration is allowed.
+-- Not in here: tags and members, which are never typedef names, and whether a second declaration is
+-- allowed.
 use Rattle.std.specs.Prelude.{ℕ, ◌-◌, Bool, true, false, cond, List, [], ◌∷◌, ◌++◌, length, take, Option, Some, None, IsTrue, is_some, option_and_then}
 use Rattle.std.specs.Str.{bytes_eq}
 use Rattle.hv_ctree.specs.declared.tree.words.StorageClass.TheVariants.{Typedef}
@@ -60,8 +61,8 @@ abbrev mutual
   declared_in (named p n) = Some n
   declared_in (group p x) = declared_by x
 
--- a declarator whose first token is a name stands after specifiers: where no type specifier is among these and
--- the name is a typedef name, it is a type specifier and no declarator
+-- a declarator whose first token is a name stands after specifiers: where no type specifier is
+-- among these and the name is a typedef name, it is a type specifier and no declarator
 abbrev pub may_declare : Bool → Option (List ℕ) → List Name → Option (List Name)
 may_declare true n xs = Some xs
 may_declare false None xs = Some xs
@@ -72,8 +73,8 @@ abbrev pub declaring : Bool → Option (List ℕ) → List Name → Option (List
 declaring b None xs = Some xs
 declaring b (Some n) xs = Some (with_one n b xs)
 
--- the name of a parameter's group, where it is its first token: a typedef name there is a parameter's type
--- (6.7.5.3 paragraph 11)
+-- the name of a parameter's group, where it is its first token: a typedef name there is a
+-- parameter's type (6.7.5.3 paragraph 11)
 abbrev pub may_group : Bool → Declarator → List Name → Option (List Name)
 may_group false x xs = Some xs
 may_group true x xs = may_declare false (name_first x) xs
@@ -99,7 +100,8 @@ abbrev mutual
   in_expression (sizeof_type p t) xs = in_type_name t xs
   in_expression (cast p t a) xs = then (in_type_name t xs) (λ ys. in_expression a ys)
   in_expression (binary p op a b) xs = then (in_expression a xs) (λ ys. in_expression b ys)
-  in_expression (conditional p a b c) xs = then (then (in_expression a xs) (λ ys. in_expression b ys)) (λ ys. in_expression c ys)
+  in_expression (conditional p a b c) xs =
+      then (then (in_expression a xs) (λ ys. in_expression b ys)) (λ ys. in_expression c ys)
   in_expression (assign p op a b) xs = then (in_expression a xs) (λ ys. in_expression b ys)
   in_expression (comma p a b) xs = then (in_expression a xs) (λ ys. in_expression b ys)
 
@@ -110,7 +112,8 @@ abbrev mutual
 
   -- a type name
   pub in_type_name : TypeName → List Name → Option (List Name)
-  in_type_name (type_name p ws m) xs = then (in_specifiers ws xs) (λ ys. in_may_declarator false m ys)
+  in_type_name (type_name p ws m) xs =
+      then (in_specifiers ws xs) (λ ys. in_may_declarator false m ys)
 
   -- specifiers
   pub in_specifiers : Specifiers → List Name → Option (List Name)
@@ -143,14 +146,17 @@ abbrev mutual
 
   -- members of one declaration
   pub in_member : MemberDeclaration → List Name → Option (List Name)
-  in_member (members_of p ws ds) xs = then (in_specifiers ws xs) (λ ys. in_declarators (has_type ws) ds ys)
+  in_member (members_of p ws ds) xs =
+      then (in_specifiers ws xs) (λ ys. in_declarators (has_type ws) ds ys)
 
-  -- the declarators of members, which declare no name that is looked for; the truth value says that a type
-  -- specifier stands before them
+  -- the declarators of members, which declare no name that is looked for; the truth value says that
+  -- a type specifier stands before them
   pub in_declarators : Bool → Declarators → List Name → Option (List Name)
   in_declarators b no_declarators xs = Some xs
-  in_declarators b (then_declarator no_declarators x) xs = then (may_declare b (name_first x) xs) (λ ys. in_declarator false x ys)
-  in_declarators b (then_declarator (then_declarator ds y) x) xs = then (in_declarators b (then_declarator ds y) xs) (λ ys. in_declarator false x ys)
+  in_declarators b (then_declarator no_declarators x) xs =
+      then (may_declare b (name_first x) xs) (λ ys. in_declarator false x ys)
+  in_declarators b (then_declarator (then_declarator ds y) x) xs =
+      then (in_declarators b (then_declarator ds y) xs) (λ ys. in_declarator false x ys)
 
   -- an enumeration
   pub in_enumeration : EnumSpecifier → List Name → Option (List Name)
@@ -207,7 +213,8 @@ abbrev mutual
   pub in_parameter : Parameter → List Name → Option (List Name)
   in_parameter (parameter p ws no_declarator) xs = in_specifiers ws xs
   in_parameter (parameter p ws (some_declarator x)) xs =
-      then (then (then (in_specifiers ws xs) (λ ys. may_declare (has_type ws) (name_first x) ys)) (λ ys. in_declarator true x ys))
+      then (then (then (in_specifiers ws xs) (λ ys. may_declare (has_type ws) (name_first x) ys))
+      (λ ys. in_declarator true x ys))
       (λ ys. declaring (has_typedef ws) (declared_by x) ys)
 
 -- what an initialiser is for
@@ -228,20 +235,22 @@ abbrev mutual
   in_initializers (then_initializer is p g i) xs =
       then (then (in_initializers is xs) (λ ys. in_designation g ys)) (λ ys. in_initializer i ys)
 
--- a declarator with its initialiser; its name is in scope within the initialiser. The truth value says that the
--- name is a typedef name
+-- a declarator with its initialiser; its name is in scope within the initialiser. The truth value
+-- says that the name is a typedef name
 abbrev pub in_init_declarator : Bool → InitDeclarator → List Name → Option (List Name)
-in_init_declarator b (bare p x) xs = then (in_declarator false x xs) (λ ys. declaring b (declared_by x) ys)
+in_init_declarator b (bare p x) xs =
+    then (in_declarator false x xs) (λ ys. declaring b (declared_by x) ys)
 in_init_declarator b (initialized p x i) xs =
-    then (then (in_declarator false x xs) (λ ys. declaring b (declared_by x) ys)) (λ ys. in_initializer i ys)
+    then (then (in_declarator false x xs) (λ ys. declaring b (declared_by x) ys))
+    (λ ys. in_initializer i ys)
 
 -- the name that a declarator with its initialiser begins with
 abbrev pub init_name_first : InitDeclarator → Option (List ℕ)
 init_name_first (bare p x) = name_first x
 init_name_first (initialized p x i) = name_first x
 
--- declarators with their initialisers; the truth values say that a type specifier stands before them, and that
--- the names are typedef names
+-- declarators with their initialisers; the truth values say that a type specifier stands before
+-- them, and that the names are typedef names
 abbrev pub in_init_declarators : Bool → Bool → InitDeclarators → List Name → Option (List Name)
 in_init_declarators t b no_init_declarators xs = Some xs
 in_init_declarators t b (then_init_declarator no_init_declarators x) xs =
@@ -260,23 +269,30 @@ in_option None xs = Some xs
 in_option (Some a) xs = in_expression a xs
 
 abbrev mutual
-  -- a statement; each selection and iteration statement is a block, and so is each statement within one
-  -- (6.8.4, 6.8.5)
+  -- a statement; each selection and iteration statement is a block, and so is each statement within
+  -- one (6.8.4, 6.8.5)
   pub in_statement : Stmt → List Name → Option (List Name)
   in_statement (case_of p a s) xs = then (in_expression a xs) (λ ys. in_statement s ys)
   in_statement (default_of p s) xs = in_statement s xs
   in_statement (block p is) xs = after_scope xs (in_items is xs)
   in_statement (expression p a) xs = in_option a xs
-  in_statement (if_only p a s) xs = after_scope xs (then (in_expression a xs) (λ ys. in_statement s ys))
+  in_statement (if_only p a s) xs =
+      after_scope xs (then (in_expression a xs) (λ ys. in_statement s ys))
   in_statement (if_else p a s t) xs =
-      after_scope xs (then (in_expression a xs) (λ ys. then (after_scope ys (in_statement s ys)) (λ zs. in_statement t zs)))
-  in_statement (switch p a s) xs = after_scope xs (then (in_expression a xs) (λ ys. in_statement s ys))
-  in_statement (while_do p a s) xs = after_scope xs (then (in_expression a xs) (λ ys. in_statement s ys))
-  in_statement (do_while p s a) xs = after_scope xs (then (after_scope xs (in_statement s xs)) (λ ys. in_expression a ys))
+      after_scope xs (then (in_expression a xs)
+      (λ ys. then (after_scope ys (in_statement s ys)) (λ zs. in_statement t zs)))
+  in_statement (switch p a s) xs =
+      after_scope xs (then (in_expression a xs) (λ ys. in_statement s ys))
+  in_statement (while_do p a s) xs =
+      after_scope xs (then (in_expression a xs) (λ ys. in_statement s ys))
+  in_statement (do_while p s a) xs =
+      after_scope xs (then (after_scope xs (in_statement s xs)) (λ ys. in_expression a ys))
   in_statement (for_expressions p a b c s) xs =
-      after_scope xs (then (then (then (in_option a xs) (λ ys. in_option b ys)) (λ ys. in_option c ys)) (λ ys. in_statement s ys))
+      after_scope xs (then (then (then (in_option a xs) (λ ys. in_option b ys))
+      (λ ys. in_option c ys)) (λ ys. in_statement s ys))
   in_statement (for_declaration p g b c s) xs =
-      after_scope xs (then (then (then (in_declaration g xs) (λ ys. in_option b ys)) (λ ys. in_option c ys)) (λ ys. in_statement s ys))
+      after_scope xs (then (then (then (in_declaration g xs) (λ ys. in_option b ys))
+      (λ ys. in_option c ys)) (λ ys. in_statement s ys))
   in_statement (continue_loop p) xs = Some xs
   in_statement (break_out p) xs = Some xs
   in_statement (return_with p a) xs = in_option a xs
@@ -291,8 +307,8 @@ abbrev mutual
   in_item (declares p g) xs = in_declaration g xs
   in_item (does p s) xs = in_statement s xs
 
--- what a search for the first suffix after a declared name has found: one, none so far, or that a `*` stands
--- before any
+-- what a search for the first suffix after a declared name has found: one, none so far, or that a
+-- `*` stands before any
 pub data Found : Type 0 where
   found : Suffix → Found
   none_yet : Found
@@ -328,7 +344,8 @@ abbrev mutual
   suffix_in (named p n) = none_yet
   suffix_in (group p x) = own_suffix x
 
--- what the parameters of a function's definition put in scope: those of the first suffix after its name
+-- what the parameters of a function's definition put in scope: those of the first suffix after its
+-- name
 abbrev pub parameter_names : Found → List Name → Option (List Name)
 parameter_names (found (function p ps)) xs = in_parameter_types ps xs
 parameter_names _ xs = Some xs
@@ -337,13 +354,15 @@ parameter_names _ xs = Some xs
 abbrev pub newer : List Name → List Name → List Name
 newer xs ys = take (length ys - length xs) ys
 
--- a function's definition: its name is in scope from its declarator's end, and its parameters' names are in
--- scope again in its body (6.2.1 paragraph 4)
+-- a function's definition: its name is in scope from its declarator's end, and its parameters'
+-- names are in scope again in its body (6.2.1 paragraph 4)
 abbrev pub in_function : FunctionDefinition → List Name → Option (List Name)
 in_function (function_definition p ws x body) xs =
     then (then (in_specifiers ws xs) (λ ys. may_declare (has_type ws) (name_first x) ys))
-    (λ ys. then (then (in_declarator false x ys) (λ zs. declaring (has_typedef ws) (declared_by x) zs))
-    (λ zs. then (parameter_names (own_suffix x) ys) (λ ps. after_scope zs (in_statement body (newer ys ps ++ zs)))))
+    (λ ys. then (then (in_declarator false x ys)
+    (λ zs. declaring (has_typedef ws) (declared_by x) zs))
+    (λ zs. then (parameter_names (own_suffix x) ys)
+    (λ ps. after_scope zs (in_statement body (newer ys ps ++ zs)))))
 
 -- an external declaration
 abbrev pub in_external : External → List Name → Option (List Name)

@@ -1,4 +1,5 @@
--- What the grammar reads: terminals, tokens with their places, and tokens with the marks of what is open there.
+-- What the grammar reads: terminals, tokens with their places, and tokens with the marks of what is
+-- open there.
 use Rattle.std.specs.Prelude.{ℕ, List, ◌∷◌}
 use Rattle.hv_base.specs.declared.place.Place.{Place}
 use Rattle.hv_base.specs.declared.keyword.Keyword.{Keyword}
@@ -24,8 +25,9 @@ use Rattle.hv_ctree.specs.declared.tree.words.UnaryOperator.{UnaryOperator}
 use Rattle.hv_ctree.specs.declared.tree.words.UnaryOperator.TheVariants as unaries
 use Rattle.hv_ctree.specs.tree.Expressions.{TypeWord, void_word, char_word, short_word, int_word, long_word, signed_word, unsigned_word, bool_word}
 
--- a terminal of the grammar: a token by its value, a name with or without the mark of a typedef name, or a hole
--- for a nested statement or a block's items; a name that is no identifier of the profile is `foreign`
+-- a terminal of the grammar: a token by its value, a name with or without the mark of a typedef
+-- name, or a hole for a nested statement or a block's items; a name that is no identifier of the
+-- profile is `foreign`
 pub data Symbol : Type 0 where
   keyword : Keyword → Symbol
   name : List ℕ → Symbol
@@ -47,8 +49,8 @@ pub data Role : Type 0 where
   inside : Role
   operator : Role
 
--- a token, how many brackets and prefixes are open at it, where it stands, and how many statements are open at
--- it (none, as long as only one element is read)
+-- a token, how many brackets and prefixes are open at it, where it stands, and how many statements
+-- are open at it (none, as long as only one element is read)
 pub record Marked : Type 0 where
   pub token : Token
   pub depth : ℕ
@@ -125,9 +127,9 @@ binary_sign binaries.Or = sign puncts.Or
 binary_sign binaries.LogicalAnd = sign puncts.AndAnd
 binary_sign binaries.LogicalOr = sign puncts.OrOr
 
--- the level of the expressions that an operator makes. The other levels: 0 expression, 1 assignment-expression,
--- 2 conditional-expression, which is a constant-expression too, 13 cast-expression, 14 unary-expression,
--- 15 postfix-expression
+-- the level of the expressions that an operator makes. The other levels: 0 expression, 1
+-- assignment-expression, 2 conditional-expression, which is a constant-expression too, 13
+-- cast-expression, 14 unary-expression, 15 postfix-expression
 abbrev pub level : BinaryOperator → ℕ
 level binaries.Multiply = 12
 level binaries.Divide = 12

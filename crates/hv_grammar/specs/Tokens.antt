@@ -1,5 +1,5 @@
--- The tokens of a tree, by their values and with the marks of typedef names: what a printer writes, and what
--- two elements are compared by. Those of an element with holes are its own tokens.
+-- The tokens of a tree, by their values and with the marks of typedef names: what a printer writes,
+-- and what two elements are compared by. Those of an element with holes are its own tokens.
 use Rattle.std.specs.Prelude.{Bool, true, false, List, [], ◌∷◌, ◌++◌, Option, Some, None}
 use Rattle.hv_base.specs.declared.keyword.Keyword.TheVariants as keywords
 use Rattle.hv_base.specs.declared.punct.Punct.TheVariants as puncts
@@ -15,7 +15,8 @@ qualifiers_tokens (then_qualifier qs q) = qualifiers_tokens qs ++ qualifier_word
 -- `*`s with their qualifiers
 abbrev pub pointers_tokens : Pointers → List Symbol
 pointers_tokens no_pointers = []
-pointers_tokens (then_pointer ps p qs) = pointers_tokens ps ++ sign puncts.Star ∷ qualifiers_tokens qs
+pointers_tokens (then_pointer ps p qs) =
+    pointers_tokens ps ++ sign puncts.Star ∷ qualifiers_tokens qs
 
 -- a tag, or none
 abbrev pub tag_tokens : MayTag → List Symbol
@@ -46,10 +47,12 @@ abbrev mutual
   tokens_of (prefix p s a) = step_sign s ∷ tokens_of a
   tokens_of (unary p op a) = unary_sign op ∷ tokens_of a
   tokens_of (sizeof_expr p a) = keyword keywords.Sizeof ∷ tokens_of a
-  tokens_of (sizeof_type p t) = keyword keywords.Sizeof ∷ left_paren ∷ (type_name_tokens t ++ right_paren ∷ [])
+  tokens_of (sizeof_type p t) =
+      keyword keywords.Sizeof ∷ left_paren ∷ (type_name_tokens t ++ right_paren ∷ [])
   tokens_of (cast p t a) = left_paren ∷ (type_name_tokens t ++ right_paren ∷ tokens_of a)
   tokens_of (binary p op a b) = tokens_of a ++ binary_sign op ∷ tokens_of b
-  tokens_of (conditional p a b c) = tokens_of a ++ sign puncts.Question ∷ (tokens_of b ++ colon ∷ tokens_of c)
+  tokens_of (conditional p a b c) =
+      tokens_of a ++ sign puncts.Question ∷ (tokens_of b ++ colon ∷ tokens_of c)
   tokens_of (assign p op a b) = tokens_of a ++ assignment_sign op ∷ tokens_of b
   tokens_of (comma p a b) = tokens_of a ++ comma_sign ∷ tokens_of b
 
@@ -57,7 +60,8 @@ abbrev mutual
   pub arguments_tokens : Arguments → List Symbol
   arguments_tokens no_arguments = []
   arguments_tokens (then_argument no_arguments a) = tokens_of a
-  arguments_tokens (then_argument (then_argument xs b) a) = arguments_tokens (then_argument xs b) ++ comma_sign ∷ tokens_of a
+  arguments_tokens (then_argument (then_argument xs b) a) =
+      arguments_tokens (then_argument xs b) ++ comma_sign ∷ tokens_of a
 
   -- a type name
   pub type_name_tokens : TypeName → List Symbol
@@ -84,7 +88,8 @@ abbrev mutual
 
   -- a structure or union
   pub compound_tokens : CompoundSpecifier → List Symbol
-  compound_tokens (defined p k t ms) = compound_word k ∷ (tag_tokens t ++ left_brace ∷ (members_tokens ms ++ right_brace ∷ []))
+  compound_tokens (defined p k t ms) =
+      compound_word k ∷ (tag_tokens t ++ left_brace ∷ (members_tokens ms ++ right_brace ∷ []))
   compound_tokens (mentioned p k q n) = compound_word k ∷ name n ∷ []
 
   -- member declarations
@@ -94,25 +99,29 @@ abbrev mutual
 
   -- members of one declaration
   pub member_tokens : MemberDeclaration → List Symbol
-  member_tokens (members_of p xs ds) = specifiers_tokens xs ++ (declarators_tokens ds ++ semicolon ∷ [])
+  member_tokens (members_of p xs ds) =
+      specifiers_tokens xs ++ (declarators_tokens ds ++ semicolon ∷ [])
 
   -- declarators with commas between them
   pub declarators_tokens : Declarators → List Symbol
   declarators_tokens no_declarators = []
   declarators_tokens (then_declarator no_declarators x) = declarator_tokens x
-  declarators_tokens (then_declarator (then_declarator xs y) x) = declarators_tokens (then_declarator xs y) ++ comma_sign ∷ declarator_tokens x
+  declarators_tokens (then_declarator (then_declarator xs y) x) =
+      declarators_tokens (then_declarator xs y) ++ comma_sign ∷ declarator_tokens x
 
   -- an enumeration
   pub enumeration_tokens : EnumSpecifier → List Symbol
   enumeration_tokens (listed p t es b) =
-      keyword keywords.Enum ∷ (tag_tokens t ++ left_brace ∷ (enumerators_tokens es ++ (last_comma b ++ right_brace ∷ [])))
+      keyword keywords.Enum ∷ (tag_tokens t ++ left_brace
+      ∷ (enumerators_tokens es ++ (last_comma b ++ right_brace ∷ [])))
   enumeration_tokens (listed_before p q n) = keyword keywords.Enum ∷ name n ∷ []
 
   -- enumeration constants with commas between them
   pub enumerators_tokens : Enumerators → List Symbol
   enumerators_tokens no_enumerators = []
   enumerators_tokens (then_enumerator no_enumerators e) = enumerator_tokens e
-  enumerators_tokens (then_enumerator (then_enumerator es f) e) = enumerators_tokens (then_enumerator es f) ++ comma_sign ∷ enumerator_tokens e
+  enumerators_tokens (then_enumerator (then_enumerator es f) e) =
+      enumerators_tokens (then_enumerator es f) ++ comma_sign ∷ enumerator_tokens e
 
   -- an enumeration constant
   pub enumerator_tokens : Enumerator → List Symbol
@@ -121,7 +130,8 @@ abbrev mutual
 
   -- a declarator
   pub declarator_tokens : Declarator → List Symbol
-  declarator_tokens (declarator p ps c ss) = pointers_tokens ps ++ (core_tokens c ++ suffixes_tokens ss)
+  declarator_tokens (declarator p ps c ss) =
+      pointers_tokens ps ++ (core_tokens c ++ suffixes_tokens ss)
 
   -- a declarator, or none
   pub may_declarator_tokens : MayDeclarator → List Symbol
@@ -142,7 +152,8 @@ abbrev mutual
   -- a suffix
   pub suffix_tokens : Suffix → List Symbol
   suffix_tokens (unsized p qs) = left_bracket ∷ (qualifiers_tokens qs ++ right_bracket ∷ [])
-  suffix_tokens (sized p qs a) = left_bracket ∷ (qualifiers_tokens qs ++ (tokens_of a ++ right_bracket ∷ []))
+  suffix_tokens (sized p qs a) =
+      left_bracket ∷ (qualifiers_tokens qs ++ (tokens_of a ++ right_bracket ∷ []))
   suffix_tokens (function p ps) = left_paren ∷ (parameter_types_tokens ps ++ right_paren ∷ [])
   suffix_tokens (unprototyped p) = left_paren ∷ right_paren ∷ []
 
@@ -154,7 +165,8 @@ abbrev mutual
   pub parameters_tokens : Parameters → List Symbol
   parameters_tokens no_parameters = []
   parameters_tokens (then_parameter no_parameters x) = parameter_tokens x
-  parameters_tokens (then_parameter (then_parameter ps y) x) = parameters_tokens (then_parameter ps y) ++ comma_sign ∷ parameter_tokens x
+  parameters_tokens (then_parameter (then_parameter ps y) x) =
+      parameters_tokens (then_parameter ps y) ++ comma_sign ∷ parameter_tokens x
 
   -- a parameter
   pub parameter_tokens : Parameter → List Symbol
@@ -170,19 +182,23 @@ abbrev mutual
   -- an initialiser
   pub initializer_tokens : Initializer → List Symbol
   initializer_tokens (value p a) = tokens_of a
-  initializer_tokens (braced p xs b) = left_brace ∷ (initializers_tokens xs ++ (last_comma b ++ right_brace ∷ []))
+  initializer_tokens (braced p xs b) =
+      left_brace ∷ (initializers_tokens xs ++ (last_comma b ++ right_brace ∷ []))
 
   -- initialisers with commas between them
   pub initializers_tokens : Initializers → List Symbol
   initializers_tokens no_initializers = []
-  initializers_tokens (then_initializer no_initializers p g x) = designation_tokens g ++ initializer_tokens x
+  initializers_tokens (then_initializer no_initializers p g x) =
+      designation_tokens g ++ initializer_tokens x
   initializers_tokens (then_initializer (then_initializer xs q h y) p g x) =
-      initializers_tokens (then_initializer xs q h y) ++ comma_sign ∷ (designation_tokens g ++ initializer_tokens x)
+      initializers_tokens (then_initializer xs q h y) ++ comma_sign
+      ∷ (designation_tokens g ++ initializer_tokens x)
 
 -- a declarator with its initialiser
 abbrev pub init_declarator_tokens : InitDeclarator → List Symbol
 init_declarator_tokens (bare p x) = declarator_tokens x
-init_declarator_tokens (initialized p x i) = declarator_tokens x ++ equal_sign ∷ initializer_tokens i
+init_declarator_tokens (initialized p x i) =
+    declarator_tokens x ++ equal_sign ∷ initializer_tokens i
 
 -- the same with commas between them
 abbrev pub init_declarators_tokens : InitDeclarators → List Symbol
@@ -193,7 +209,8 @@ init_declarators_tokens (then_init_declarator (then_init_declarator xs y) x) =
 
 -- a declaration with its `;`
 abbrev pub declaration_tokens : Declaration → List Symbol
-declaration_tokens (declaration p xs ds) = specifiers_tokens xs ++ (init_declarators_tokens ds ++ semicolon ∷ [])
+declaration_tokens (declaration p xs ds) =
+    specifiers_tokens xs ++ (init_declarators_tokens ds ++ semicolon ∷ [])
 
 -- an expression, or none
 abbrev pub option_tokens : Option Expr → List Symbol
@@ -204,21 +221,30 @@ option_tokens (Some a) = tokens_of a
 abbrev pub own_tokens : Skeleton → List Symbol
 own_tokens (hollow_empty p) = semicolon ∷ []
 own_tokens (hollow_declaration p g) = declaration_tokens g
-own_tokens (hollow_function p xs x q h) = specifiers_tokens xs ++ (declarator_tokens x ++ left_brace ∷ hole ∷ right_brace ∷ [])
+own_tokens (hollow_function p xs x q h) =
+    specifiers_tokens xs ++ (declarator_tokens x ++ left_brace ∷ hole ∷ right_brace ∷ [])
 own_tokens (hollow_case p a h) = keyword keywords.Case ∷ (tokens_of a ++ colon ∷ hole ∷ [])
 own_tokens (hollow_default p h) = keyword keywords.Default ∷ colon ∷ hole ∷ []
 own_tokens (hollow_compound p h) = left_brace ∷ hole ∷ right_brace ∷ []
 own_tokens (hollow_expression p a) = option_tokens a ++ semicolon ∷ []
-own_tokens (hollow_if p a h) = keyword keywords.If ∷ left_paren ∷ (tokens_of a ++ right_paren ∷ hole ∷ [])
-own_tokens (hollow_if_else p a h i) = keyword keywords.If ∷ left_paren ∷ (tokens_of a ++ right_paren ∷ hole ∷ keyword keywords.Else ∷ hole ∷ [])
-own_tokens (hollow_switch p a h) = keyword keywords.Switch ∷ left_paren ∷ (tokens_of a ++ right_paren ∷ hole ∷ [])
-own_tokens (hollow_while p a h) = keyword keywords.While ∷ left_paren ∷ (tokens_of a ++ right_paren ∷ hole ∷ [])
+own_tokens (hollow_if p a h) =
+    keyword keywords.If ∷ left_paren ∷ (tokens_of a ++ right_paren ∷ hole ∷ [])
+own_tokens (hollow_if_else p a h i) =
+    keyword keywords.If ∷ left_paren ∷ (tokens_of a ++ right_paren ∷ hole ∷ keyword keywords.Else
+    ∷ hole ∷ [])
+own_tokens (hollow_switch p a h) =
+    keyword keywords.Switch ∷ left_paren ∷ (tokens_of a ++ right_paren ∷ hole ∷ [])
+own_tokens (hollow_while p a h) =
+    keyword keywords.While ∷ left_paren ∷ (tokens_of a ++ right_paren ∷ hole ∷ [])
 own_tokens (hollow_do_while p h a) =
-    keyword keywords.Do ∷ hole ∷ keyword keywords.While ∷ left_paren ∷ (tokens_of a ++ right_paren ∷ semicolon ∷ [])
+    keyword keywords.Do ∷ hole ∷ keyword keywords.While ∷ left_paren
+    ∷ (tokens_of a ++ right_paren ∷ semicolon ∷ [])
 own_tokens (hollow_for p a b c h) =
-    keyword keywords.For ∷ left_paren ∷ (option_tokens a ++ semicolon ∷ (option_tokens b ++ semicolon ∷ (option_tokens c ++ right_paren ∷ hole ∷ [])))
+    keyword keywords.For ∷ left_paren ∷ (option_tokens a ++ semicolon
+    ∷ (option_tokens b ++ semicolon ∷ (option_tokens c ++ right_paren ∷ hole ∷ [])))
 own_tokens (hollow_for_declaration p g b c h) =
-    keyword keywords.For ∷ left_paren ∷ (declaration_tokens g ++ (option_tokens b ++ semicolon ∷ (option_tokens c ++ right_paren ∷ hole ∷ [])))
+    keyword keywords.For ∷ left_paren ∷ (declaration_tokens g
+    ++ (option_tokens b ++ semicolon ∷ (option_tokens c ++ right_paren ∷ hole ∷ [])))
 own_tokens (hollow_continue p) = keyword keywords.Continue ∷ semicolon ∷ []
 own_tokens (hollow_break p) = keyword keywords.Break ∷ semicolon ∷ []
 own_tokens (hollow_return p a) = keyword keywords.Return ∷ (option_tokens a ++ semicolon ∷ [])

@@ -1,4 +1,5 @@
-//! The grammar of the profile, as definitions: which tokens derive which tree, and which token is refused first.
+//! The grammar of the profile, as definitions: which tokens derive which tree, and which token is
+//! refused first.
 #![tactic(auto)]
 
 mod laws;

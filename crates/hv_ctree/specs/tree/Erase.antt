@@ -55,7 +55,8 @@ qualifiers_of qs = qualifiers_after plain.no_qualifiers qs
 -- `*`s after others
 abbrev pub pointers_after : plain.Pointers → List Pointer → plain.Pointers
 pointers_after ps [] = ps
-pointers_after ps (p ∷ rest) = pointers_after (plain.then_pointer ps p.place (qualifiers_of p.qualifiers)) rest
+pointers_after ps (p ∷ rest) =
+    pointers_after (plain.then_pointer ps p.place (qualifiers_of p.qualifiers)) rest
 
 -- the `*`s of a list
 abbrev pub pointers_of : List Pointer → plain.Pointers
@@ -109,7 +110,8 @@ abbrev mutual
 
   -- a type name
   pub type_name_of : TypeName → plain.TypeName
-  type_name_of (TypeNameOf' at _ xs d) = plain.type_name at (type_words_row plain.no_specifiers xs) (may_abstract_in d)
+  type_name_of (TypeNameOf' at _ xs d) =
+      plain.type_name at (type_words_row plain.no_specifiers xs) (may_abstract_in d)
 
   -- a word of declaration specifiers
   pub declared_word_of : DeclarationSpecifier → plain.Specifier
@@ -139,18 +141,22 @@ abbrev mutual
 
   -- a structure or union
   pub compound_of : StructOrUnionSpecifier → plain.CompoundSpecifier
-  compound_of (Defined' at kind t _ ms) = plain.defined at kind (tag_of t) (members_row plain.no_members ms)
+  compound_of (Defined' at kind t _ ms) =
+      plain.defined at kind (tag_of t) (members_row plain.no_members ms)
   compound_of (Mentioned at kind t) = plain.mentioned at kind t.place t.name
 
   -- members of one declaration
   pub member_declaration_of : StructDeclaration → plain.MemberDeclaration
   member_declaration_of (StructDeclarationOf' at _ xs _ ds) =
-      plain.members_of at (type_words_row plain.no_specifiers xs) (declarators_row plain.no_declarators ds)
+      plain.members_of at (type_words_row plain.no_specifiers xs)
+          (declarators_row plain.no_declarators ds)
 
   -- an enumeration
   pub enumeration_of : EnumSpecifier → plain.EnumSpecifier
-  enumeration_of (Listed' at t _ es) = plain.listed at (tag_of t) (enumerators_row plain.no_enumerators es) false
-  enumeration_of (ListedComma' at t _ es) = plain.listed at (tag_of t) (enumerators_row plain.no_enumerators es) true
+  enumeration_of (Listed' at t _ es) =
+      plain.listed at (tag_of t) (enumerators_row plain.no_enumerators es) false
+  enumeration_of (ListedComma' at t _ es) =
+      plain.listed at (tag_of t) (enumerators_row plain.no_enumerators es) true
   enumeration_of (MentionedEnum at t) = plain.listed_before at t.place t.name
 
   -- an enumeration constant
@@ -185,7 +191,8 @@ abbrev mutual
   -- an abstract declarator, or none
   pub may_abstract_in : Held-ParameterDeclaration-Abstract-2 → plain.MayDeclarator
   may_abstract_in ParameterDeclaration-Abstract-2-None' = plain.no_declarator
-  may_abstract_in (ParameterDeclaration-Abstract-2-Some' _ d) = plain.some_declarator (abstract_of d)
+  may_abstract_in (ParameterDeclaration-Abstract-2-Some' _ d) =
+      plain.some_declarator (abstract_of d)
 
   -- what stands after a declarator
   pub suffix_of : Suffix → plain.Suffix
@@ -196,54 +203,71 @@ abbrev mutual
 
   -- the parameters of a function
   pub parameter_types_of : ParameterTypeList → plain.ParameterTypes
-  parameter_types_of (Fixed' at _ ps) = plain.parameter_types at (parameters_row plain.no_parameters ps) false
-  parameter_types_of (Variadic' at _ ps) = plain.parameter_types at (parameters_row plain.no_parameters ps) true
+  parameter_types_of (Fixed' at _ ps) =
+      plain.parameter_types at (parameters_row plain.no_parameters ps) false
+  parameter_types_of (Variadic' at _ ps) =
+      plain.parameter_types at (parameters_row plain.no_parameters ps) true
 
   -- a parameter
   pub parameter_of : ParameterDeclaration → plain.Parameter
   parameter_of (Named' at _ xs _ d) =
-      plain.parameter at (declared_words_row plain.no_specifiers xs) (plain.some_declarator (declarator_of d))
-  parameter_of (Abstract' at _ xs d) = plain.parameter at (declared_words_row plain.no_specifiers xs) (may_abstract_in d)
+      plain.parameter at (declared_words_row plain.no_specifiers xs)
+          (plain.some_declarator (declarator_of d))
+  parameter_of (Abstract' at _ xs d) =
+      plain.parameter at (declared_words_row plain.no_specifiers xs) (may_abstract_in d)
 
   -- arguments after others
   pub arguments_row : {m : _} → plain.Arguments → Row_of-Expr-Call-2-1 m → plain.Arguments
   arguments_row xs end_of-Expr-Call-2-1 = xs
-  arguments_row xs (more_of-Expr-Call-2-1 _ x rest) = arguments_row (plain.then_argument xs (expr_of x)) rest
+  arguments_row xs (more_of-Expr-Call-2-1 _ x rest) =
+      arguments_row (plain.then_argument xs (expr_of x)) rest
 
   -- words of a specifier-qualifier-list after others
   pub type_words_row : {m : _} → plain.Specifiers → Row_of-TypeName-Of-1-1 m → plain.Specifiers
   type_words_row xs end_of-TypeName-Of-1-1 = xs
-  type_words_row xs (more_of-TypeName-Of-1-1 _ x rest) = type_words_row (plain.then_specifier xs (type_word_of x)) rest
+  type_words_row xs (more_of-TypeName-Of-1-1 _ x rest) =
+      type_words_row (plain.then_specifier xs (type_word_of x)) rest
 
   -- words of declaration specifiers after others
-  pub declared_words_row : {m : _} → plain.Specifiers → Row_of-ParameterDeclaration-Named-1-1 m → plain.Specifiers
+  pub declared_words_row : {m : _} → plain.Specifiers → Row_of-ParameterDeclaration-Named-1-1 m
+      → plain.Specifiers
   declared_words_row xs end_of-ParameterDeclaration-Named-1-1 = xs
-  declared_words_row xs (more_of-ParameterDeclaration-Named-1-1 _ x rest) = declared_words_row (plain.then_specifier xs (declared_word_of x)) rest
+  declared_words_row xs (more_of-ParameterDeclaration-Named-1-1 _ x rest) =
+      declared_words_row (plain.then_specifier xs (declared_word_of x)) rest
 
   -- member declarations after others
-  pub members_row : {m : _} → plain.Members → Row_of-StructOrUnionSpecifier-Defined-3-1 m → plain.Members
+  pub members_row : {m : _} → plain.Members → Row_of-StructOrUnionSpecifier-Defined-3-1 m
+      → plain.Members
   members_row xs end_of-StructOrUnionSpecifier-Defined-3-1 = xs
-  members_row xs (more_of-StructOrUnionSpecifier-Defined-3-1 _ x rest) = members_row (plain.then_member xs (member_declaration_of x)) rest
+  members_row xs (more_of-StructOrUnionSpecifier-Defined-3-1 _ x rest) =
+      members_row (plain.then_member xs (member_declaration_of x)) rest
 
   -- declarators after others
-  pub declarators_row : {m : _} → plain.Declarators → Row_of-StructDeclaration-Of-2-1 m → plain.Declarators
+  pub declarators_row : {m : _} → plain.Declarators → Row_of-StructDeclaration-Of-2-1 m
+      → plain.Declarators
   declarators_row xs end_of-StructDeclaration-Of-2-1 = xs
-  declarators_row xs (more_of-StructDeclaration-Of-2-1 _ x rest) = declarators_row (plain.then_declarator xs (declarator_of x)) rest
+  declarators_row xs (more_of-StructDeclaration-Of-2-1 _ x rest) =
+      declarators_row (plain.then_declarator xs (declarator_of x)) rest
 
   -- enumeration constants after others
-  pub enumerators_row : {m : _} → plain.Enumerators → Row_of-EnumSpecifier-Listed-2-1 m → plain.Enumerators
+  pub enumerators_row : {m : _} → plain.Enumerators → Row_of-EnumSpecifier-Listed-2-1 m
+      → plain.Enumerators
   enumerators_row xs end_of-EnumSpecifier-Listed-2-1 = xs
-  enumerators_row xs (more_of-EnumSpecifier-Listed-2-1 _ x rest) = enumerators_row (plain.then_enumerator xs (enumerator_of x)) rest
+  enumerators_row xs (more_of-EnumSpecifier-Listed-2-1 _ x rest) =
+      enumerators_row (plain.then_enumerator xs (enumerator_of x)) rest
 
   -- suffixes after others
   pub suffixes_row : {m : _} → plain.Suffixes → Row_of-AbstractDeclarator-Of-3-1 m → plain.Suffixes
   suffixes_row xs end_of-AbstractDeclarator-Of-3-1 = xs
-  suffixes_row xs (more_of-AbstractDeclarator-Of-3-1 _ x rest) = suffixes_row (plain.then_suffix xs (suffix_of x)) rest
+  suffixes_row xs (more_of-AbstractDeclarator-Of-3-1 _ x rest) =
+      suffixes_row (plain.then_suffix xs (suffix_of x)) rest
 
   -- parameters after others
-  pub parameters_row : {m : _} → plain.Parameters → Row_of-ParameterTypeList-Fixed-1-1 m → plain.Parameters
+  pub parameters_row : {m : _} → plain.Parameters → Row_of-ParameterTypeList-Fixed-1-1 m
+      → plain.Parameters
   parameters_row xs end_of-ParameterTypeList-Fixed-1-1 = xs
-  parameters_row xs (more_of-ParameterTypeList-Fixed-1-1 _ x rest) = parameters_row (plain.then_parameter xs (parameter_of x)) rest
+  parameters_row xs (more_of-ParameterTypeList-Fixed-1-1 _ x rest) =
+      parameters_row (plain.then_parameter xs (parameter_of x)) rest
 
 -- arguments of a list, after others
 abbrev pub arguments_after : plain.Arguments → List (Rc Expr Global) → plain.Arguments
@@ -255,18 +279,22 @@ abbrev pub arguments_of : List (Rc Expr Global) → plain.Arguments
 arguments_of xs = arguments_after plain.no_arguments xs
 
 -- words of a specifier-qualifier-list of a list, after others
-abbrev pub type_words_after : plain.Specifiers → List (Rc SpecifierQualifier Global) → plain.Specifiers
+abbrev pub type_words_after : plain.Specifiers → List (Rc SpecifierQualifier Global)
+    → plain.Specifiers
 type_words_after xs [] = xs
-type_words_after xs (x ∷ rest) = type_words_after (plain.then_specifier xs (type_word_of x.value)) rest
+type_words_after xs (x ∷ rest) =
+    type_words_after (plain.then_specifier xs (type_word_of x.value)) rest
 
 -- words of a specifier-qualifier-list of a list
 abbrev pub type_words_of : List (Rc SpecifierQualifier Global) → plain.Specifiers
 type_words_of xs = type_words_after plain.no_specifiers xs
 
 -- words of declaration specifiers of a list, after others
-abbrev pub declared_words_after : plain.Specifiers → List (Rc DeclarationSpecifier Global) → plain.Specifiers
+abbrev pub declared_words_after : plain.Specifiers → List (Rc DeclarationSpecifier Global)
+    → plain.Specifiers
 declared_words_after xs [] = xs
-declared_words_after xs (x ∷ rest) = declared_words_after (plain.then_specifier xs (declared_word_of x.value)) rest
+declared_words_after xs (x ∷ rest) =
+    declared_words_after (plain.then_specifier xs (declared_word_of x.value)) rest
 
 -- words of declaration specifiers of a list
 abbrev pub declared_words_of : List (Rc DeclarationSpecifier Global) → plain.Specifiers
@@ -275,7 +303,8 @@ declared_words_of xs = declared_words_after plain.no_specifiers xs
 -- member declarations of a list, after others
 abbrev pub members_after : plain.Members → List (Rc StructDeclaration Global) → plain.Members
 members_after xs [] = xs
-members_after xs (x ∷ rest) = members_after (plain.then_member xs (member_declaration_of x.value)) rest
+members_after xs (x ∷ rest) =
+    members_after (plain.then_member xs (member_declaration_of x.value)) rest
 
 -- member declarations of a list
 abbrev pub members_of : List (Rc StructDeclaration Global) → plain.Members
@@ -284,7 +313,8 @@ members_of xs = members_after plain.no_members xs
 -- declarators of a list, after others
 abbrev pub declarators_after : plain.Declarators → List (Rc Declarator Global) → plain.Declarators
 declarators_after xs [] = xs
-declarators_after xs (x ∷ rest) = declarators_after (plain.then_declarator xs (declarator_of x.value)) rest
+declarators_after xs (x ∷ rest) =
+    declarators_after (plain.then_declarator xs (declarator_of x.value)) rest
 
 -- declarators of a list
 abbrev pub declarators_of : List (Rc Declarator Global) → plain.Declarators
@@ -293,7 +323,8 @@ declarators_of xs = declarators_after plain.no_declarators xs
 -- enumeration constants of a list, after others
 abbrev pub enumerators_after : plain.Enumerators → List (Rc Enumerator Global) → plain.Enumerators
 enumerators_after xs [] = xs
-enumerators_after xs (x ∷ rest) = enumerators_after (plain.then_enumerator xs (enumerator_of x.value)) rest
+enumerators_after xs (x ∷ rest) =
+    enumerators_after (plain.then_enumerator xs (enumerator_of x.value)) rest
 
 -- enumeration constants of a list
 abbrev pub enumerators_of : List (Rc Enumerator Global) → plain.Enumerators
@@ -309,9 +340,11 @@ abbrev pub suffixes_of : List (Rc Suffix Global) → plain.Suffixes
 suffixes_of xs = suffixes_after plain.no_suffixes xs
 
 -- parameters of a list, after others
-abbrev pub parameters_after : plain.Parameters → List (Rc ParameterDeclaration Global) → plain.Parameters
+abbrev pub parameters_after : plain.Parameters → List (Rc ParameterDeclaration Global)
+    → plain.Parameters
 parameters_after xs [] = xs
-parameters_after xs (x ∷ rest) = parameters_after (plain.then_parameter xs (parameter_of x.value)) rest
+parameters_after xs (x ∷ rest) =
+    parameters_after (plain.then_parameter xs (parameter_of x.value)) rest
 
 -- parameters of a list
 abbrev pub parameters_of : List (Rc ParameterDeclaration Global) → plain.Parameters

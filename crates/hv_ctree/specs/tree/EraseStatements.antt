@@ -43,21 +43,28 @@ abbrev mutual
   -- an initialiser
   pub initializer_of : Initializer → plain.Initializer
   initializer_of (Value at e) = plain.value at (expr_of e.value)
-  initializer_of (Braced' at _ xs) = plain.braced at (initializers_row plain.no_initializers xs) false
-  initializer_of (BracedComma' at _ xs) = plain.braced at (initializers_row plain.no_initializers xs) true
+  initializer_of (Braced' at _ xs) =
+      plain.braced at (initializers_row plain.no_initializers xs) false
+  initializer_of (BracedComma' at _ xs) =
+      plain.braced at (initializers_row plain.no_initializers xs) true
 
   -- an entry after others
   pub item_after : plain.Initializers → InitializerItem → plain.Initializers
-  item_after xs (Next' at _ x) = plain.then_initializer xs at plain.no_designation (initializer_of x)
-  item_after xs (Designated' at d _ x) = plain.then_initializer xs at (designation_of d.value) (initializer_of x)
+  item_after xs (Next' at _ x) =
+      plain.then_initializer xs at plain.no_designation (initializer_of x)
+  item_after xs (Designated' at d _ x) =
+      plain.then_initializer xs at (designation_of d.value) (initializer_of x)
 
   -- entries after others
-  pub initializers_row : {m : _} → plain.Initializers → Row_of-Initializer-List-1-1 m → plain.Initializers
+  pub initializers_row : {m : _} → plain.Initializers → Row_of-Initializer-List-1-1 m
+      → plain.Initializers
   initializers_row xs end_of-Initializer-List-1-1 = xs
-  initializers_row xs (more_of-Initializer-List-1-1 _ x rest) = initializers_row (item_after xs x) rest
+  initializers_row xs (more_of-Initializer-List-1-1 _ x rest) =
+      initializers_row (item_after xs x) rest
 
 -- entries of a list, after others
-abbrev pub initializers_after : plain.Initializers → List (Rc InitializerItem Global) → plain.Initializers
+abbrev pub initializers_after : plain.Initializers → List (Rc InitializerItem Global)
+    → plain.Initializers
 initializers_after xs [] = xs
 initializers_after xs (x ∷ rest) = initializers_after (item_after xs x.value) rest
 
@@ -68,17 +75,20 @@ initializers_of xs = initializers_after plain.no_initializers xs
 -- a declarator with its initialiser
 abbrev pub init_declarator_of : InitDeclarator → plain.InitDeclarator
 init_declarator_of (Plain at d) = plain.bare at (declarator_of d.value)
-init_declarator_of (Initialized at d x) = plain.initialized at (declarator_of d.value) (initializer_of x.value)
+init_declarator_of (Initialized at d x) =
+    plain.initialized at (declarator_of d.value) (initializer_of x.value)
 
 -- declarators of a list, after others
-abbrev pub init_declarators_after : plain.InitDeclarators → List (Rc InitDeclarator Global) → plain.InitDeclarators
+abbrev pub init_declarators_after : plain.InitDeclarators → List (Rc InitDeclarator Global)
+    → plain.InitDeclarators
 init_declarators_after ds [] = ds
 init_declarators_after ds (d ∷ rest) =
     init_declarators_after (plain.then_init_declarator ds (init_declarator_of d.value)) rest
 
 -- a declaration
 abbrev pub declaration_of : Declaration → plain.Declaration
-declaration_of d = plain.declaration d.place (erase.declared_words_after expressions.no_specifiers d.specifiers)
+declaration_of d =
+    plain.declaration d.place (erase.declared_words_after expressions.no_specifiers d.specifiers)
     (init_declarators_after plain.no_init_declarators d.declarators)
 
 abbrev mutual
@@ -93,7 +103,8 @@ abbrev mutual
   stmt_of (Switch' at e _ s) = plain.switch at (expr_of e.value) (stmt_of s)
   stmt_of (While' at e _ s) = plain.while_do at (expr_of e.value) (stmt_of s)
   stmt_of (DoWhile' at _ s e) = plain.do_while at (stmt_of s) (expr_of e.value)
-  stmt_of (For' at a b c _ s) = plain.for_expressions at (may_expr_of a) (may_expr_of b) (may_expr_of c) (stmt_of s)
+  stmt_of (For' at a b c _ s) =
+      plain.for_expressions at (may_expr_of a) (may_expr_of b) (may_expr_of c) (stmt_of s)
   stmt_of (ForDeclaration' at d b c _ s) =
       plain.for_declaration at (declaration_of d.value) (may_expr_of b) (may_expr_of c) (stmt_of s)
   stmt_of (Continue at) = plain.continue_loop at
@@ -108,7 +119,8 @@ abbrev mutual
   -- items after others
   pub items_row : {m : _} → plain.Items → Row_of-Stmt-Compound-1-1 m → plain.Items
   items_row xs end_of-Stmt-Compound-1-1 = xs
-  items_row xs (more_of-Stmt-Compound-1-1 _ x rest) = items_row (plain.then_item xs (item_of x)) rest
+  items_row xs (more_of-Stmt-Compound-1-1 _ x rest) =
+      items_row (plain.then_item xs (item_of x)) rest
 
 -- items of a list, after others
 abbrev pub items_after : plain.Items → List (Rc BlockItem Global) → plain.Items
@@ -121,7 +133,9 @@ items_of xs = items_after plain.no_items xs
 
 -- a function's definition
 abbrev pub function_of : FunctionDefinition → plain.FunctionDefinition
-function_of f = plain.function_definition f.place (erase.declared_words_after expressions.no_specifiers f.specifiers)
+function_of f =
+    plain.function_definition f.place (erase.declared_words_after expressions.no_specifiers
+    f.specifiers)
     (declarator_of f.declarator.value) (stmt_of f.body.value)
 
 -- an external declaration
@@ -132,14 +146,17 @@ external_of (Empty at) = plain.empty at
 
 -- a program
 abbrev pub program_of : Program → plain.Program
-program_of program = record { externals = map (λ (r : Rc ExternalDeclaration Global). external_of r.value) program.externals }
+program_of program =
+    record { externals =
+    map (λ (r : Rc ExternalDeclaration Global). external_of r.value) program.externals }
 
 -- an element with holes
 abbrev pub skeleton_of : Skeleton → plain.Skeleton
 skeleton_of (HollowEmpty at) = plain.hollow_empty at
 skeleton_of (HollowDeclaration at d) = plain.hollow_declaration at (declaration_of d.value)
 skeleton_of (HollowFunction at xs d body h) =
-    plain.hollow_function at (erase.declared_words_after expressions.no_specifiers xs) (declarator_of d.value) body h.number
+    plain.hollow_function at (erase.declared_words_after expressions.no_specifiers xs)
+        (declarator_of d.value) body h.number
 skeleton_of (HollowCase at e h) = plain.hollow_case at (expr_of e.value) h.number
 skeleton_of (HollowDefault at h) = plain.hollow_default at h.number
 skeleton_of (HollowCompound at h) = plain.hollow_compound at h.number
@@ -149,9 +166,11 @@ skeleton_of (HollowIfElse at e h i) = plain.hollow_if_else at (expr_of e.value) 
 skeleton_of (HollowSwitch at e h) = plain.hollow_switch at (expr_of e.value) h.number
 skeleton_of (HollowWhile at e h) = plain.hollow_while at (expr_of e.value) h.number
 skeleton_of (HollowDoWhile at h e) = plain.hollow_do_while at h.number (expr_of e.value)
-skeleton_of (HollowFor at a b c h) = plain.hollow_for at (may_expr_of a) (may_expr_of b) (may_expr_of c) h.number
+skeleton_of (HollowFor at a b c h) =
+    plain.hollow_for at (may_expr_of a) (may_expr_of b) (may_expr_of c) h.number
 skeleton_of (HollowForDeclaration at d b c h) =
-    plain.hollow_for_declaration at (declaration_of d.value) (may_expr_of b) (may_expr_of c) h.number
+    plain.hollow_for_declaration at (declaration_of d.value) (may_expr_of b) (may_expr_of c)
+        h.number
 skeleton_of (HollowContinue at) = plain.hollow_continue at
 skeleton_of (HollowBreak at) = plain.hollow_break at
 skeleton_of (HollowReturn at e) = plain.hollow_return at (may_expr_of e)

@@ -1,7 +1,7 @@
--- Expressions, type names, specifiers and declarators (Annex A.2.1 and A.2.2), which reach one another. The
--- first field of a node is the place of its first token. What differs from the tree that the code has: the
--- operators between two operands are one constructor, one list of specifiers serves declarations and type
--- names, and an abstract declarator is a declarator without a name.
+-- Expressions, type names, specifiers and declarators (Annex A.2.1 and A.2.2), which reach one
+-- another. The first field of a node is the place of its first token. What differs from the tree
+-- that the code has: the operators between two operands are one constructor, one list of specifiers
+-- serves declarations and type names, and an abstract declarator is a declarator without a name.
 use Rattle.std.specs.Prelude.{ℕ, Bool, List}
 use Rattle.hv_base.specs.declared.place.Place.{Place}
 use Rattle.hv_ctree.specs.declared.tree.words.AssignmentOperator.{AssignmentOperator}

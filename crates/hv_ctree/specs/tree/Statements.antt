@@ -3,8 +3,8 @@ use Rattle.std.specs.Prelude.{ℕ, Bool, List, Option}
 use Rattle.hv_base.specs.declared.place.Place.{Place}
 use Rattle.hv_ctree.specs.tree.Expressions.{Expr, Specifiers, Declarator}
 
--- what an initialiser in braces is for (6.7.8): the next part, an element or a member; the place is that of
--- the `[` or the `.`
+-- what an initialiser in braces is for (6.7.8): the next part, an element or a member; the place is
+-- that of the `[` or the `.`
 pub data Designation : Type 0 where
   no_designation : Designation
   of_index : Place → Expr → Designation
@@ -25,6 +25,7 @@ pub data InitDeclarator : Type 0 where
   bare : Place → Declarator → InitDeclarator
   initialized : Place → Declarator → Initializer → InitDeclarator
 
+-- init-declarator-list (6.7)
 pub data InitDeclarators : Type 0 where
   no_init_declarators : InitDeclarators
   then_init_declarator : InitDeclarators → InitDeclarator → InitDeclarators

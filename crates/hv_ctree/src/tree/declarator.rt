@@ -1,4 +1,5 @@
-//! Declarators (6.7.5, 6.7.6). The brackets and parentheses after one are a list, since no limit bounds their number.
+//! Declarators (6.7.5, 6.7.6). The brackets and parentheses after one are a list, since no limit
+//! bounds their number.
 
 use crate::tree::expr::Expr;
 use crate::tree::specifier::DeclarationSpecifier;

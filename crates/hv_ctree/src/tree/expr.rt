@@ -10,8 +10,8 @@ use crate::tree::words::{AssignmentOperator, Constant, UnaryOperator};
 use hv_base::{List, Place, Text};
 use std::rc::Rc;
 
-/// An expression: one variant for each production of 6.5.1 to 6.5.17 that does more than pass on. `place` is
-/// that of its first token.
+/// An expression: one variant for each production of 6.5.1 to 6.5.17 that does more than pass on.
+/// `place` is that of its first token.
 #[cycle(expr)]
 #[derive(Drop)]
 pub enum Expr {

@@ -7,14 +7,15 @@ use crate::tree::specifier::DeclarationSpecifier;
 use hv_base::{List, Place};
 use std::rc::Rc;
 
-/// Where a nested statement or a block's list of items stands; numbered from 0 in the order of the text.
+/// Where a nested statement or a block's list of items stands; numbered from 0 in the order of the
+/// text.
 #[derive(Clone, Copy, Debug, PartialEq, Eq)]
 pub struct Hole {
     pub number: u32,
 }
 
-/// The tree of an element with a hole for each statement within it, and one for a block's items.
-/// It doesn't say where the element stands, a lone `;` aside: `Empty` is an external declaration.
+/// The tree of an element with a hole for each statement within it, and one for a block's items. It
+/// doesn't say where the element stands, a lone `;` aside: `Empty` is an external declaration.
 #[derive(Drop)]
 pub enum Skeleton {
     Empty {

@@ -100,7 +100,8 @@ pub enum StructOrUnionSpecifier {
     },
 }
 
-/// `struct-declaration` (6.7.2.1). There are no bit-fields, so a `struct-declarator` is its declarator.
+/// `struct-declaration` (6.7.2.1). There are no bit-fields, so a `struct-declarator` is its
+/// declarator.
 #[cycle(expr)]
 #[derive(Drop)]
 pub enum StructDeclaration {

@@ -1,5 +1,5 @@
 -- What the machine answers to whole lists of tokens.
-use Rattle.std.specs.Prelude.{ℕ, suc, ◌+◌, Bool, true, false, cond, nat_le, List, [], ◌∷◌, Option, Some, None}
+use Rattle.std.specs.Prelude.{ℕ, suc, Bool, true, false, cond, nat_le, List, [], ◌∷◌, Option, Some, None}
 use Rattle.hv_base.specs.declared.why.Why.{Why}
 use Rattle.hv_base.specs.declared.why.Why.TheVariants.{Syntax, TooDeep}
 use Rattle.hv_ctree.specs.tree.Expressions.{Expr}
@@ -34,5 +34,6 @@ abbrev pub answer : Limits → State → ℕ → ℕ → List Token → Answer
 answer l m n i [] = at_end i (finished m)
 answer l m n i (t ∷ ts) = elim (step m t) [
   | None ↦ Refused i Syntax
-  | Some k ↦ cond (keeps l n k) (answer l k.state (operators_after n k) (suc i) ts) (Refused i TooDeep)
+  | Some k ↦ cond (keeps l n k) (answer l k.state (operators_after n k) (suc i) ts)
+      (Refused i TooDeep)
 ]

@@ -1,6 +1,6 @@
--- What the parsing machine keeps: frames, each all that was read of a production up to the part that is read
--- now, with the tables that say all of a frame, and where the machine is.
-use Rattle.std.specs.Prelude.{ℕ, zero, suc, Bool, true, false, List, [], ◌∷◌}
+-- What the parsing machine keeps: frames, each all that was read of a production up to the part
+-- that is read now, with the tables that say all of a frame, and where the machine is.
+use Rattle.std.specs.Prelude.{ℕ, suc, Bool, true, false, List, [], ◌∷◌}
 use Rattle.hv_base.specs.declared.place.Place.{Place}
 use Rattle.hv_ctree.specs.declared.tree.words.AssignmentOperator.{AssignmentOperator}
 use Rattle.hv_ctree.specs.declared.tree.words.BinaryOperator.{BinaryOperator}
@@ -135,7 +135,8 @@ abbrev pub depth : List Frame → ℕ
 depth [] = 0
 depth (f ∷ stack) = weigh f (depth stack)
 
--- where the tokens of specifiers and declarators stand: in an expression where a type's name is begun
+-- where the tokens of specifiers and declarators stand: in an expression where a type's name is
+-- begun
 abbrev pub within : List Frame → Role
 within [] = outside
 within (SizeofType p ∷ stack) = inside
@@ -183,7 +184,8 @@ pub data At : Type 0 where
   MemberStart : At
   EnumeratorStart : At
   AfterEnumerator : Place → List ℕ → At
-  -- before the middle of a declarator; after a `(` there, which may begin parameters; after the middle
+  -- before the middle of a declarator; after a `(` there, which may begin parameters; after the
+  -- middle
   Pointing : Mode → Place → Pointers → At
   Opened : Mode → Place → Pointers → Place → At
   Direct : Mode → Place → Pointers → Core → Suffixes → At
@@ -215,7 +217,8 @@ left by_comma = 0
 left by_bracket = 15
 left by_parenthesis = 15
 
--- the level of what ends before it: `* ( T ) a` ends before `=`, though a cast is no unary-expression
+-- the level of what ends before it: `* ( T ) a` ends before `=`, though a cast is no
+-- unary-expression
 abbrev pub reach : Infix → ℕ
 reach (by_operator op) = level op
 reach (by_assignment op) = 13

@@ -1,5 +1,5 @@
 -- The machine's steps: what a token does where the machine is.
-use Rattle.std.specs.Prelude.{◌≡◌, ℕ, zero, suc, Bool, true, false, cond, nat_le, ◌≤◌, List, [], ◌∷◌, Option, Some, None}
+use Rattle.std.specs.Prelude.{ℕ, suc, Bool, true, false, cond, nat_le, List, [], ◌∷◌, Option, Some, None}
 use Rattle.hv_base.specs.declared.place.Place.{Place}
 use Rattle.hv_base.specs.declared.keyword.Keyword.{Keyword}
 use Rattle.hv_base.specs.declared.keyword.Keyword.TheVariants as keywords
@@ -9,7 +9,6 @@ use Rattle.hv_ctree.specs.declared.tree.words.AssignmentOperator.TheVariants as 
 use Rattle.hv_ctree.specs.declared.tree.words.BinaryOperator.TheVariants as binaries
 use Rattle.hv_ctree.specs.declared.tree.words.Selector.{Selector}
 use Rattle.hv_ctree.specs.declared.tree.words.Selector.TheVariants.{Dot, Arrow}
-use Rattle.hv_ctree.specs.declared.tree.words.Step.{Step as StepSign}
 use Rattle.hv_ctree.specs.declared.tree.words.Step.TheVariants.{Increment, Decrement}
 use Rattle.hv_ctree.specs.declared.tree.words.StorageClass.TheVariants as storages
 use Rattle.hv_ctree.specs.declared.tree.words.StructOrUnion.{StructOrUnion}
@@ -17,8 +16,8 @@ use Rattle.hv_ctree.specs.declared.tree.words.StructOrUnion.TheVariants.{Struct,
 use Rattle.hv_ctree.specs.declared.tree.words.TypeQualifier.{TypeQualifier}
 use Rattle.hv_ctree.specs.declared.tree.words.TypeQualifier.TheVariants.{Const, Restrict}
 use Rattle.hv_ctree.specs.declared.tree.words.UnaryOperator.TheVariants.{Address, Indirection, Plus, Minus, Complement, Not}
-use Rattle.hv_ctree.specs.tree.Expressions.{Expr, identifier, constant, string, parenthesized, subscript, call, member, postfix, sizeof_type, Arguments, no_arguments, then_argument, type_name, Specifiers, no_specifiers, then_specifier, Specifier, storage, of_type, qualifier, inline, word, compound, enumeration, typedef_name, defined, mentioned, MayTag, no_tag, tag, Members, no_members, then_member, members_of, Declarators, no_declarators, then_declarator, listed, listed_before, Enumerators, no_enumerators, then_enumerator, plain, valued, Declarator, declarator, MayDeclarator, no_declarator, some_declarator, Core, nothing, named, group, Suffixes, no_suffixes, then_suffix, unsized, sized, function, unprototyped, parameter_types, no_parameters, then_parameter, parameter, Pointers, no_pointers, then_pointer, Qualifiers, no_qualifiers, then_qualifier, void_word, char_word, short_word, int_word, long_word, signed_word, unsigned_word, bool_word, place_of}
-use Rattle.hv_grammar.specs.Symbols.{Symbol, keyword, name, marked, number, text, sign, Token, Role, outside, inside, operator}
+use Rattle.hv_ctree.specs.tree.Expressions.{Expr, identifier, constant, string, parenthesized, subscript, call, member, postfix, sizeof_type, no_arguments, then_argument, type_name, Specifiers, no_specifiers, then_specifier, Specifier, storage, of_type, qualifier, inline, word, compound, enumeration, typedef_name, defined, mentioned, MayTag, no_tag, tag, no_members, then_member, members_of, no_declarators, then_declarator, listed, listed_before, Enumerators, no_enumerators, then_enumerator, plain, valued, Declarator, declarator, MayDeclarator, no_declarator, some_declarator, Core, nothing, named, group, Suffixes, no_suffixes, then_suffix, unsized, sized, function, unprototyped, parameter_types, no_parameters, then_parameter, parameter, Pointers, no_pointers, then_pointer, Qualifiers, no_qualifiers, then_qualifier, void_word, char_word, short_word, int_word, long_word, signed_word, unsigned_word, bool_word, place_of}
+use Rattle.hv_grammar.specs.Symbols.{Symbol, keyword, name, marked, number, text, sign, Token, Role, inside, operator}
 use Rattle.hv_grammar.specs.Expressions.{stars, braced, has_type}
 use Rattle.hv_grammar.specs.machine.Frames.{Owner, of_type_name, of_parameter, of_member, Mode, only_named, only_abstract, either, Frame, Parenthesis, AfterSizeof, Subscript, Callee, Calling, Prefix, Unary, Sizeof, SizeofType, CastType, Cast, Then, Else, Specified, Body, Listing, Valued, Owned, OwnedMembers, Group, Length, Parameters, hole_of, made, weigh, depth, within, completes, plug, At, Want, Have, Selecting, Words, AfterCompound, AfterTag, AfterEnum, AfterEnumTag, MemberStart, EnumeratorStart, AfterEnumerator, Pointing, Opened, Direct, Bracket, ParametersStart, ParameterNext, AfterEllipsis, State, Infix, by_operator, by_assignment, by_question, by_comma, by_bracket, by_parenthesis, left, reach, makes, begun, weigh_at}
 
@@ -31,8 +30,8 @@ want stack = state stack Want
 abbrev pub have : ℕ → List Frame → Expr → State
 have k stack a = state stack (Have k a)
 
--- a token was taken, with its marks; `late` says that the `(` before it, directly after `sizeof`, is a
--- parenthesis, which counts
+-- a token was taken, with its marks; `late` says that the `(` before it, directly after `sizeof`,
+-- is a parenthesis, which counts
 pub record Taken : Type 0 where
   pub state : State
   pub depth : ℕ
@@ -139,7 +138,8 @@ reduced stack l a = record { stack = stack; level = l; operand = a }
 -- ends what ends before such a token
 abbrev pub reduce : ℕ → List Frame → ℕ → Expr → Reduced
 reduce k [] l a = reduced [] l a
-reduce k (f ∷ stack) l a = cond (ends k f) (reduce k stack (made f) (plug f a)) (reduced (f ∷ stack) l a)
+reduce k (f ∷ stack) l a =
+    cond (ends k f) (reduce k stack (made f) (plug f a)) (reduced (f ∷ stack) l a)
 
 ------ specifiers
 
@@ -148,21 +148,32 @@ abbrev pub plainly : List Frame → State → ℕ → Option Taken
 plainly stack m d = took (within stack) m d
 
 -- one more specifier, which is one word
-abbrev pub worded : Owner → Place → Specifiers → List Frame → Option Specifier → Option Taken → Option Taken
+abbrev pub worded : Owner → Place → Specifiers → List Frame → Option Specifier → Option Taken
+    → Option Taken
 worded o p xs stack None other = other
-worded o p xs stack (Some x) other = cond (may_stand o x) (plainly stack (state stack (Words o p (then_specifier xs x))) (depth stack)) other
+worded o p xs stack (Some x) other =
+    cond (may_stand o x) (plainly stack (state stack (Words o p (then_specifier xs x)))
+    (depth stack)) other
 
-abbrev pub marked_word : Owner → Place → Specifiers → List Frame → Place → List ℕ → Option Taken → Option Taken
-marked_word o p xs stack q n other = cond (has_type xs) other (plainly stack (state stack (Words o p (then_specifier xs (of_type q (typedef_name q n))))) (depth stack))
+abbrev pub marked_word : Owner → Place → Specifiers → List Frame → Place → List ℕ → Option Taken
+    → Option Taken
+marked_word o p xs stack q n other =
+    cond (has_type xs) other (plainly stack (state stack
+    (Words o p (then_specifier xs (of_type q (typedef_name q n))))) (depth stack))
 
-abbrev pub keyword_word : Owner → Place → Specifiers → List Frame → Place → Keyword → Option Taken → Option Taken
-keyword_word o p xs stack q keywords.Struct other = plainly stack (state (Specified o p xs ∷ stack) (AfterCompound q Struct)) (depth stack)
-keyword_word o p xs stack q keywords.Union other = plainly stack (state (Specified o p xs ∷ stack) (AfterCompound q Union)) (depth stack)
-keyword_word o p xs stack q keywords.Enum other = plainly stack (state (Specified o p xs ∷ stack) (AfterEnum q)) (depth stack)
+abbrev pub keyword_word : Owner → Place → Specifiers → List Frame → Place → Keyword → Option Taken
+    → Option Taken
+keyword_word o p xs stack q keywords.Struct other =
+    plainly stack (state (Specified o p xs ∷ stack) (AfterCompound q Struct)) (depth stack)
+keyword_word o p xs stack q keywords.Union other =
+    plainly stack (state (Specified o p xs ∷ stack) (AfterCompound q Union)) (depth stack)
+keyword_word o p xs stack q keywords.Enum other =
+    plainly stack (state (Specified o p xs ∷ stack) (AfterEnum q)) (depth stack)
 keyword_word o p xs stack q k other = worded o p xs stack (word_of q k) other
 
 -- a token that may be one more specifier; the last argument is what it does otherwise
-abbrev pub specifier_at : Owner → Place → Specifiers → List Frame → Place → Symbol → Option Taken → Option Taken
+abbrev pub specifier_at : Owner → Place → Specifiers → List Frame → Place → Symbol → Option Taken
+    → Option Taken
 specifier_at o p xs stack q (keyword k) other = keyword_word o p xs stack q k other
 specifier_at o p xs stack q (marked n) other = marked_word o p xs stack q n other
 specifier_at o p xs stack q _ other = other
@@ -181,11 +192,13 @@ pushed stack f = loud (want (f ∷ stack)) (weigh f (depth stack))
 
 -- `(`: after `sizeof` the next token says whether it counts
 abbrev pub paren_at : List Frame → Place → Option Taken
-paren_at (Sizeof p ∷ stack) q = quiet (want (AfterSizeof q ∷ Sizeof p ∷ stack)) (suc (suc (depth stack)))
+paren_at (Sizeof p ∷ stack) q =
+    quiet (want (AfterSizeof q ∷ Sizeof p ∷ stack)) (suc (suc (depth stack)))
 paren_at stack q = pushed stack (Parenthesis q)
 
 abbrev pub close_call : List Frame → Option Taken
-close_call (Callee a ∷ stack) = quiet (have 15 stack (call (place_of a) a no_arguments)) (suc (depth stack))
+close_call (Callee a ∷ stack) =
+    quiet (have 15 stack (call (place_of a) a no_arguments)) (suc (depth stack))
 close_call _ = None
 
 abbrev pub want_sign : List Frame → Place → Punct → Option Taken
@@ -216,18 +229,22 @@ operand_at stack p _ = None
 
 -- after `(` a type's name begins a cast, where one may stand
 abbrev pub cast_at : List Frame → Place → Place → Symbol → Option Taken → Option Taken
-cast_at stack q p s other = cond (nat_le (hole_of stack) 13) (first_word of_type_name (CastType q ∷ stack) p s other) other
+cast_at stack q p s other =
+    cond (nat_le (hole_of stack) 13) (first_word of_type_name (CastType q ∷ stack) p s other) other
 
 abbrev pub step_want : List Frame → Place → Symbol → Option Taken
 step_want (Parenthesis q ∷ stack) p s = cast_at stack q p s (operand_at (Parenthesis q ∷ stack) p s)
 step_want (AfterSizeof q ∷ Sizeof r ∷ stack) p s =
-    first_word of_type_name (SizeofType r ∷ stack) p s (lately (operand_at (Parenthesis q ∷ Sizeof r ∷ stack) p s))
+    first_word of_type_name (SizeofType r ∷ stack) p s
+    (lately (operand_at (Parenthesis q ∷ Sizeof r ∷ stack) p s))
 step_want stack p s = operand_at stack p s
 
 ------ expressions: after an operand
 
 abbrev pub infix_at : Infix → Reduced → Option Taken → Option Taken
-infix_at i r other = cond (nat_le (hole_of r.stack) (makes i)) (loud (want (begun i r.operand ∷ r.stack)) (weigh_at i (depth r.stack))) other
+infix_at i r other =
+    cond (nat_le (hole_of r.stack) (makes i))
+    (loud (want (begun i r.operand ∷ r.stack)) (weigh_at i (depth r.stack))) other
 
 abbrev pub infix_of_level : Infix → Reduced → Option Taken
 infix_of_level i r = cond (nat_le (left i) r.level) (infix_at i r None) None
@@ -237,17 +254,22 @@ goes_on i k stack a = infix_of_level i (reduce (reach i) stack k a)
 
 -- a specifier is ended, where it stands in others
 abbrev pub specified : List Frame → Place → ℕ → Specifier → Option Taken
-specified (Specified o p xs ∷ stack) q d x = plainly stack (state stack (Words o p (then_specifier xs x))) d
+specified (Specified o p xs ∷ stack) q d x =
+    plainly stack (state stack (Words o p (then_specifier xs x))) d
 specified _ q d x = None
 
 abbrev pub listed_at : List Frame → Place → MayTag → Enumerators → Bool → Option Taken
-listed_at stack q t es b = specified stack q (braced (depth stack)) (of_type q (enumeration q (listed q t es b)))
+listed_at stack q t es b =
+    specified stack q (braced (depth stack)) (of_type q (enumeration q (listed q t es b)))
 
 abbrev pub argument_at : List Frame → Expr → Option Taken
-argument_at (Callee a ∷ stack) b = quiet (want (Calling a (then_argument no_arguments b) ∷ stack)) (suc (depth stack))
-argument_at (Calling a xs ∷ stack) b = quiet (want (Calling a (then_argument xs b) ∷ stack)) (suc (depth stack))
+argument_at (Callee a ∷ stack) b =
+    quiet (want (Calling a (then_argument no_arguments b) ∷ stack)) (suc (depth stack))
+argument_at (Calling a xs ∷ stack) b =
+    quiet (want (Calling a (then_argument xs b) ∷ stack)) (suc (depth stack))
 argument_at (Valued p n ∷ Listing q t es ∷ stack) b =
-    plainly stack (state (Listing q t (then_enumerator es (valued p n b)) ∷ stack) EnumeratorStart) (braced (depth stack))
+    plainly stack (state (Listing q t (then_enumerator es (valued p n b)) ∷ stack) EnumeratorStart)
+    (braced (depth stack))
 argument_at _ b = None
 
 abbrev pub comma_at : Reduced → Option Taken
@@ -255,18 +277,23 @@ comma_at r = infix_at by_comma r (argument_at r.stack r.operand)
 
 abbrev pub close_at : List Frame → Expr → Option Taken
 close_at (Parenthesis p ∷ stack) b = quiet (have 15 stack (parenthesized p b)) (suc (depth stack))
-close_at (Callee a ∷ stack) b = quiet (have 15 stack (call (place_of a) a (then_argument no_arguments b))) (suc (depth stack))
-close_at (Calling a xs ∷ stack) b = quiet (have 15 stack (call (place_of a) a (then_argument xs b))) (suc (depth stack))
+close_at (Callee a ∷ stack) b =
+    quiet (have 15 stack (call (place_of a) a (then_argument no_arguments b))) (suc (depth stack))
+close_at (Calling a xs ∷ stack) b =
+    quiet (have 15 stack (call (place_of a) a (then_argument xs b))) (suc (depth stack))
 close_at _ b = None
 
 abbrev pub bracket_at : List Frame → Expr → Option Taken
-bracket_at (Subscript a ∷ stack) b = quiet (have 15 stack (subscript (place_of a) a b)) (suc (depth stack))
+bracket_at (Subscript a ∷ stack) b =
+    quiet (have 15 stack (subscript (place_of a) a b)) (suc (depth stack))
 bracket_at (Length m p ps c ss q qs ∷ stack) b =
-    plainly stack (state stack (Direct m p ps c (then_suffix ss (sized q qs b)))) (suc (stars ps (depth stack)))
+    plainly stack (state stack (Direct m p ps c (then_suffix ss (sized q qs b))))
+    (suc (stars ps (depth stack)))
 bracket_at _ b = None
 
 abbrev pub brace_at : List Frame → Expr → Option Taken
-brace_at (Valued p n ∷ Listing q t es ∷ stack) b = listed_at stack q t (then_enumerator es (valued p n b)) false
+brace_at (Valued p n ∷ Listing q t es ∷ stack) b =
+    listed_at stack q t (then_enumerator es (valued p n b)) false
 brace_at _ b = None
 
 abbrev pub colon_at : List Frame → Expr → Option Taken
@@ -290,10 +317,14 @@ have_sign stack k a puncts.RightParenthesis = after close_at (reduce 0 stack k a
 have_sign stack k a puncts.RightBracket = after bracket_at (reduce 0 stack k a)
 have_sign stack k a puncts.RightBrace = after brace_at (reduce 0 stack k a)
 have_sign stack k a puncts.Colon = after colon_at (reduce 0 stack k a)
-have_sign stack k a puncts.Dot = after_postfix k (loud (state stack (Selecting Dot a)) (depth stack))
-have_sign stack k a puncts.Arrow = after_postfix k (loud (state stack (Selecting Arrow a)) (depth stack))
-have_sign stack k a puncts.PlusPlus = after_postfix k (loud (have 15 stack (postfix (place_of a) Increment a)) (depth stack))
-have_sign stack k a puncts.MinusMinus = after_postfix k (loud (have 15 stack (postfix (place_of a) Decrement a)) (depth stack))
+have_sign stack k a puncts.Dot =
+    after_postfix k (loud (state stack (Selecting Dot a)) (depth stack))
+have_sign stack k a puncts.Arrow =
+    after_postfix k (loud (state stack (Selecting Arrow a)) (depth stack))
+have_sign stack k a puncts.PlusPlus =
+    after_postfix k (loud (have 15 stack (postfix (place_of a) Increment a)) (depth stack))
+have_sign stack k a puncts.MinusMinus =
+    after_postfix k (loud (have 15 stack (postfix (place_of a) Decrement a)) (depth stack))
 have_sign stack k a s = goes_by (infix_of s) k stack a
 
 abbrev pub step_have : List Frame → ℕ → Expr → Symbol → Option Taken
@@ -316,8 +347,8 @@ may_lack_name only_named = false
 may_lack_name only_abstract = true
 may_lack_name either = true
 
--- the place of a declarator whose `*`s begin at the first place, if there are any, and whose next token is at
--- the second
+-- the place of a declarator whose `*`s begin at the first place, if there are any, and whose next
+-- token is at the second
 abbrev pub begins : Place → Pointers → Place → Place
 begins p no_pointers q = q
 begins p (then_pointer ps r qs) q = p
@@ -330,80 +361,103 @@ qualified (then_pointer ps p qs) q = Some (then_pointer ps p (then_qualifier qs 
 -- a token after a whole declarator, or after none where it may be missing
 abbrev pub after_parameter : List Frame → MayDeclarator → Punct → Option Taken
 after_parameter (Owned o r xs ∷ Parameters m p ps c ss b first params ∷ stack) x puncts.Comma =
-    plainly stack (state (Parameters m p ps c ss b first (then_parameter params (parameter r xs x)) ∷ stack) ParameterNext) (suc (stars ps (depth stack)))
-after_parameter (Owned o r xs ∷ Parameters m p ps c ss b first params ∷ stack) x puncts.RightParenthesis =
-    plainly stack (state stack (Direct m p ps c (then_suffix ss (function b (parameter_types first (then_parameter params (parameter r xs x)) false))))) (suc (stars ps (depth stack)))
+    plainly stack (state (Parameters m p ps c ss b first (then_parameter params (parameter r xs x))
+    ∷ stack) ParameterNext) (suc (stars ps (depth stack)))
+after_parameter (Owned o r xs ∷ Parameters m p ps c ss b first params ∷ stack) x
+    puncts.RightParenthesis =
+    plainly stack (state stack (Direct m p ps c
+    (then_suffix ss (function b (parameter_types first
+    (then_parameter params (parameter r xs x)) false))))) (suc (stars ps (depth stack)))
 after_parameter _ x s = None
 
 abbrev pub after_member : List Frame → Declarator → Punct → Option Taken
 after_member (OwnedMembers r xs ds ∷ stack) x puncts.Comma =
-    plainly stack (state (OwnedMembers r xs (then_declarator ds x) ∷ stack) (Pointing only_named r no_pointers)) (depth stack)
+    plainly stack (state (OwnedMembers r xs (then_declarator ds x) ∷ stack)
+    (Pointing only_named r no_pointers)) (depth stack)
 after_member (OwnedMembers r xs ds ∷ Body q k t ms ∷ stack) x puncts.Semicolon =
-    plainly stack (state (Body q k t (then_member ms (members_of r xs (then_declarator ds x))) ∷ stack) MemberStart) (suc (depth stack))
+    plainly stack (state (Body q k t (then_member ms (members_of r xs (then_declarator ds x)))
+    ∷ stack) MemberStart) (suc (depth stack))
 after_member _ x s = None
 
 abbrev pub after_type_name : List Frame → MayDeclarator → Punct → Option Taken
-after_type_name (Owned o r xs ∷ CastType p ∷ stack) x puncts.RightParenthesis = quiet (want (Cast p (type_name r xs x) ∷ stack)) (suc (depth stack))
+after_type_name (Owned o r xs ∷ CastType p ∷ stack) x puncts.RightParenthesis =
+    quiet (want (Cast p (type_name r xs x) ∷ stack)) (suc (depth stack))
 after_type_name (Owned o r xs ∷ SizeofType p ∷ stack) x puncts.RightParenthesis =
     quiet (have 14 stack (sizeof_type p (type_name r xs x))) (suc (suc (depth stack)))
 after_type_name _ x s = None
 
 abbrev pub after_group : List Frame → Declarator → Punct → Option Taken
 after_group (Group m p ps q ∷ stack) x puncts.RightParenthesis =
-    plainly stack (state stack (Direct m p ps (group q x) no_suffixes)) (suc (stars ps (depth stack)))
+    plainly stack (state stack (Direct m p ps (group q x) no_suffixes))
+    (suc (stars ps (depth stack)))
 after_group _ x s = None
 
 abbrev pub ended : List Frame → MayDeclarator → Punct → Option Taken
 ended (Owned of_parameter r xs ∷ stack) x s = after_parameter (Owned of_parameter r xs ∷ stack) x s
 ended (Owned of_type_name r xs ∷ stack) x s = after_type_name (Owned of_type_name r xs ∷ stack) x s
-ended (OwnedMembers r xs ds ∷ stack) (some_declarator x) s = after_member (OwnedMembers r xs ds ∷ stack) x s
+ended (OwnedMembers r xs ds ∷ stack) (some_declarator x) s =
+    after_member (OwnedMembers r xs ds ∷ stack) x s
 ended (Group m p ps q ∷ stack) (some_declarator x) s = after_group (Group m p ps q ∷ stack) x s
 ended _ x s = None
 
 -- a declarator with nothing at its middle and after it
 abbrev pub only_pointers : Place → Pointers → MayDeclarator
 only_pointers p no_pointers = no_declarator
-only_pointers p (then_pointer ps q qs) = some_declarator (declarator p (then_pointer ps q qs) nothing no_suffixes)
+only_pointers p (then_pointer ps q qs) =
+    some_declarator (declarator p (then_pointer ps q qs) nothing no_suffixes)
 
 abbrev pub pointing_qualifier : Mode → Place → List Frame → ℕ → Option Pointers → Option Taken
 pointing_qualifier m p stack d None = None
 pointing_qualifier m p stack d (Some ps) = plainly stack (state stack (Pointing m p ps)) d
 
-abbrev pub pointing_keyword : Mode → Place → Pointers → List Frame → Option TypeQualifier → Option Taken
+abbrev pub pointing_keyword : Mode → Place → Pointers → List Frame → Option TypeQualifier
+    → Option Taken
 pointing_keyword m p ps stack None = None
-pointing_keyword m p ps stack (Some q) = pointing_qualifier m p stack (stars ps (depth stack)) (qualified ps q)
+pointing_keyword m p ps stack (Some q) =
+    pointing_qualifier m p stack (stars ps (depth stack)) (qualified ps q)
 
 abbrev pub opened_at : Mode → Place → Pointers → Place → List Frame → Option Taken
 opened_at only_named p ps q stack =
-    plainly stack (state (Group only_named p ps q ∷ stack) (Pointing only_named q no_pointers)) (suc (stars ps (depth stack)))
-opened_at m p ps q stack = plainly stack (state stack (Opened m p ps q)) (suc (stars ps (depth stack)))
+    plainly stack (state (Group only_named p ps q ∷ stack) (Pointing only_named q no_pointers))
+    (suc (stars ps (depth stack)))
+opened_at m p ps q stack =
+    plainly stack (state stack (Opened m p ps q)) (suc (stars ps (depth stack)))
 
 abbrev pub pointing_sign : Mode → Place → Pointers → List Frame → Place → Punct → Option Taken
 pointing_sign m p ps stack q puncts.Star =
-    plainly stack (state stack (Pointing m (begins p ps q) (then_pointer ps q no_qualifiers))) (suc (stars ps (depth stack)))
+    plainly stack (state stack (Pointing m (begins p ps q) (then_pointer ps q no_qualifiers)))
+    (suc (stars ps (depth stack)))
 pointing_sign m p ps stack q puncts.LeftParenthesis = opened_at m (begins p ps q) ps q stack
 pointing_sign m p ps stack q puncts.LeftBracket =
-    cond (may_lack_name m) (plainly stack (state stack (Bracket m (begins p ps q) ps nothing no_suffixes q no_qualifiers)) (suc (stars ps (depth stack)))) None
+    cond (may_lack_name m) (plainly stack (state stack
+    (Bracket m (begins p ps q) ps nothing no_suffixes q no_qualifiers))
+    (suc (stars ps (depth stack)))) None
 pointing_sign m p ps stack q s = cond (may_lack_name m) (ended stack (only_pointers p ps) s) None
 
 abbrev pub step_pointing : Mode → Place → Pointers → List Frame → Place → Symbol → Option Taken
 step_pointing m p ps stack q (name n) =
-    cond (may_name m) (plainly stack (state stack (Direct m (begins p ps q) ps (named q n) no_suffixes)) (stars ps (depth stack))) None
+    cond (may_name m) (plainly stack (state stack
+    (Direct m (begins p ps q) ps (named q n) no_suffixes)) (stars ps (depth stack))) None
 step_pointing m p ps stack q (keyword k) = pointing_keyword m p ps stack (qualifier_of k)
 step_pointing m p ps stack q (sign s) = pointing_sign m p ps stack q s
 step_pointing m p ps stack q _ = None
 
 -- after a `(` that may begin parameters or a declarator within it
-abbrev pub opened_sign : Mode → Place → Pointers → Place → List Frame → Place → Symbol → Option Taken
+abbrev pub opened_sign : Mode → Place → Pointers → Place → List Frame → Place → Symbol
+    → Option Taken
 opened_sign m p ps b stack q (sign puncts.RightParenthesis) =
-    plainly stack (state stack (Direct m p ps nothing (then_suffix no_suffixes (unprototyped b)))) (suc (stars ps (depth stack)))
+    plainly stack (state stack (Direct m p ps nothing (then_suffix no_suffixes (unprototyped b))))
+    (suc (stars ps (depth stack)))
 opened_sign m p ps b stack q s = step_pointing m q no_pointers (Group m p ps b ∷ stack) q s
 
-abbrev pub step_opened : Mode → Place → Pointers → Place → List Frame → Place → Symbol → Option Taken
+abbrev pub step_opened : Mode → Place → Pointers → Place → List Frame → Place → Symbol
+    → Option Taken
 step_opened m p ps b stack q s =
-    first_word of_parameter (Parameters m p ps nothing no_suffixes b q no_parameters ∷ stack) q s (opened_sign m p ps b stack q s)
+    first_word of_parameter (Parameters m p ps nothing no_suffixes b q no_parameters ∷ stack) q s
+    (opened_sign m p ps b stack q s)
 
-abbrev pub step_direct : Mode → Place → Pointers → Core → Suffixes → List Frame → Place → Symbol → Option Taken
+abbrev pub step_direct : Mode → Place → Pointers → Core → Suffixes → List Frame → Place → Symbol
+    → Option Taken
 step_direct m p ps c ss stack q (sign puncts.LeftBracket) =
     plainly stack (state stack (Bracket m p ps c ss q no_qualifiers)) (suc (stars ps (depth stack)))
 step_direct m p ps c ss stack q (sign puncts.LeftParenthesis) =
@@ -411,26 +465,35 @@ step_direct m p ps c ss stack q (sign puncts.LeftParenthesis) =
 step_direct m p ps c ss stack q (sign s) = ended stack (some_declarator (declarator p ps c ss)) s
 step_direct m p ps c ss stack q _ = None
 
-abbrev pub bracket_keyword : Mode → Place → Pointers → Core → Suffixes → Place → Qualifiers → List Frame → Option TypeQualifier → Option Taken → Option Taken
+abbrev pub bracket_keyword : Mode → Place → Pointers → Core → Suffixes → Place → Qualifiers
+    → List Frame → Option TypeQualifier → Option Taken → Option Taken
 bracket_keyword m p ps c ss b qs stack None other = other
 bracket_keyword m p ps c ss b qs stack (Some x) other =
-    plainly stack (state stack (Bracket m p ps c ss b (then_qualifier qs x))) (suc (stars ps (depth stack)))
+    plainly stack (state stack (Bracket m p ps c ss b (then_qualifier qs x)))
+    (suc (stars ps (depth stack)))
 
-abbrev pub step_bracket : Mode → Place → Pointers → Core → Suffixes → Place → Qualifiers → List Frame → Place → Symbol → Option Taken
+abbrev pub step_bracket : Mode → Place → Pointers → Core → Suffixes → Place → Qualifiers
+    → List Frame → Place → Symbol → Option Taken
 step_bracket m p ps c ss b qs stack q (sign puncts.RightBracket) =
-    plainly stack (state stack (Direct m p ps c (then_suffix ss (unsized b qs)))) (suc (stars ps (depth stack)))
+    plainly stack (state stack (Direct m p ps c (then_suffix ss (unsized b qs))))
+    (suc (stars ps (depth stack)))
 step_bracket m p ps c ss b qs stack q (keyword k) =
-    bracket_keyword m p ps c ss b qs stack (qualifier_of k) (operand_at (Length m p ps c ss b qs ∷ stack) q (keyword k))
+    bracket_keyword m p ps c ss b qs stack (qualifier_of k)
+    (operand_at (Length m p ps c ss b qs ∷ stack) q (keyword k))
 step_bracket m p ps c ss b qs stack q s = operand_at (Length m p ps c ss b qs ∷ stack) q s
 
-abbrev pub no_parameters_at : Mode → Place → Pointers → Core → Suffixes → Place → List Frame → Symbol → Option Taken
+abbrev pub no_parameters_at : Mode → Place → Pointers → Core → Suffixes → Place → List Frame
+    → Symbol → Option Taken
 no_parameters_at m p ps c ss b stack (sign puncts.RightParenthesis) =
-    plainly stack (state stack (Direct m p ps c (then_suffix ss (unprototyped b)))) (suc (stars ps (depth stack)))
+    plainly stack (state stack (Direct m p ps c (then_suffix ss (unprototyped b))))
+    (suc (stars ps (depth stack)))
 no_parameters_at m p ps c ss b stack _ = None
 
-abbrev pub step_parameters : Mode → Place → Pointers → Core → Suffixes → Place → List Frame → Place → Symbol → Option Taken
+abbrev pub step_parameters : Mode → Place → Pointers → Core → Suffixes → Place → List Frame → Place
+    → Symbol → Option Taken
 step_parameters m p ps c ss b stack q s =
-    first_word of_parameter (Parameters m p ps c ss b q no_parameters ∷ stack) q s (no_parameters_at m p ps c ss b stack s)
+    first_word of_parameter (Parameters m p ps c ss b q no_parameters ∷ stack) q s
+    (no_parameters_at m p ps c ss b stack s)
 
 abbrev pub ellipsis_at : List Frame → Symbol → Option Taken
 ellipsis_at stack (sign puncts.Ellipsis) = plainly stack (state stack AfterEllipsis) (depth stack)
@@ -438,15 +501,20 @@ ellipsis_at stack _ = None
 
 abbrev pub step_ellipsis : List Frame → Symbol → Option Taken
 step_ellipsis (Parameters m p ps c ss b first params ∷ stack) (sign puncts.RightParenthesis) =
-    plainly stack (state stack (Direct m p ps c (then_suffix ss (function b (parameter_types first params true))))) (suc (stars ps (depth stack)))
+    plainly stack (state stack (Direct m p ps c
+    (then_suffix ss (function b (parameter_types first params true)))))
+    (suc (stars ps (depth stack)))
 step_ellipsis _ s = None
 
 ------ after specifiers
 
 abbrev pub words_ended : Owner → Place → Specifiers → List Frame → Place → Symbol → Option Taken
-words_ended of_type_name p xs stack q s = step_pointing only_abstract q no_pointers (Owned of_type_name p xs ∷ stack) q s
-words_ended of_parameter p xs stack q s = step_pointing either q no_pointers (Owned of_parameter p xs ∷ stack) q s
-words_ended of_member p xs stack q s = step_pointing only_named q no_pointers (OwnedMembers p xs no_declarators ∷ stack) q s
+words_ended of_type_name p xs stack q s =
+    step_pointing only_abstract q no_pointers (Owned of_type_name p xs ∷ stack) q s
+words_ended of_parameter p xs stack q s =
+    step_pointing either q no_pointers (Owned of_parameter p xs ∷ stack) q s
+words_ended of_member p xs stack q s =
+    step_pointing only_named q no_pointers (OwnedMembers p xs no_declarators ∷ stack) q s
 
 abbrev pub step_words : Owner → Place → Specifiers → List Frame → Place → Symbol → Option Taken
 step_words o p xs stack q s = specifier_at o p xs stack q s (words_ended o p xs stack q s)
@@ -458,16 +526,20 @@ ended_word _ x q s = None
 
 abbrev pub step_compound : Place → StructOrUnion → List Frame → Place → Symbol → Option Taken
 step_compound p k stack q (name n) = plainly stack (state stack (AfterTag p k q n)) (depth stack)
-step_compound p k stack q (sign puncts.LeftBrace) = plainly stack (state (Body p k no_tag no_members ∷ stack) MemberStart) (suc (depth stack))
+step_compound p k stack q (sign puncts.LeftBrace) =
+    plainly stack (state (Body p k no_tag no_members ∷ stack) MemberStart) (suc (depth stack))
 step_compound p k stack q _ = None
 
-abbrev pub step_tag : Place → StructOrUnion → Place → List ℕ → List Frame → Place → Symbol → Option Taken
-step_tag p k r n stack q (sign puncts.LeftBrace) = plainly stack (state (Body p k (tag r n) no_members ∷ stack) MemberStart) (suc (depth stack))
+abbrev pub step_tag : Place → StructOrUnion → Place → List ℕ → List Frame → Place → Symbol
+    → Option Taken
+step_tag p k r n stack q (sign puncts.LeftBrace) =
+    plainly stack (state (Body p k (tag r n) no_members ∷ stack) MemberStart) (suc (depth stack))
 step_tag p k r n stack q s = ended_word stack (of_type p (compound p (mentioned p k r n))) q s
 
 abbrev pub body_ended : List Frame → Symbol → Option Taken
 body_ended (Body q k t (then_member ms m) ∷ stack) (sign puncts.RightBrace) =
-    specified stack q (suc (depth stack)) (of_type q (compound q (defined q k t (then_member ms m))))
+    specified stack q (suc (depth stack)) (of_type q
+    (compound q (defined q k t (then_member ms m))))
 body_ended _ s = None
 
 abbrev pub step_member : List Frame → Place → Symbol → Option Taken
@@ -475,15 +547,21 @@ step_member stack q s = first_word of_member stack q s (body_ended stack s)
 
 abbrev pub step_enum : Place → List Frame → Place → Symbol → Option Taken
 step_enum p stack q (name n) = plainly stack (state stack (AfterEnumTag p q n)) (depth stack)
-step_enum p stack q (sign puncts.LeftBrace) = plainly stack (state (Listing p no_tag no_enumerators ∷ stack) EnumeratorStart) (braced (depth stack))
+step_enum p stack q (sign puncts.LeftBrace) =
+    plainly stack (state (Listing p no_tag no_enumerators ∷ stack) EnumeratorStart)
+    (braced (depth stack))
 step_enum p stack q _ = None
 
 abbrev pub step_enum_tag : Place → Place → List ℕ → List Frame → Place → Symbol → Option Taken
-step_enum_tag p r n stack q (sign puncts.LeftBrace) = plainly stack (state (Listing p (tag r n) no_enumerators ∷ stack) EnumeratorStart) (braced (depth stack))
-step_enum_tag p r n stack q s = ended_word stack (of_type p (enumeration p (listed_before p r n))) q s
+step_enum_tag p r n stack q (sign puncts.LeftBrace) =
+    plainly stack (state (Listing p (tag r n) no_enumerators ∷ stack) EnumeratorStart)
+    (braced (depth stack))
+step_enum_tag p r n stack q s =
+    ended_word stack (of_type p (enumeration p (listed_before p r n))) q s
 
 abbrev pub listing_ended : List Frame → Option Taken
-listing_ended (Listing q t (then_enumerator es e) ∷ stack) = listed_at stack q t (then_enumerator es e) true
+listing_ended (Listing q t (then_enumerator es e) ∷ stack) =
+    listed_at stack q t (then_enumerator es e) true
 listing_ended _ = None
 
 abbrev pub step_enumerator : List Frame → Place → Symbol → Option Taken
@@ -495,8 +573,10 @@ abbrev pub enumerator_named : List Frame → Place → List ℕ → Punct → Op
 enumerator_named (Listing q t es ∷ stack) p n puncts.Equal =
     plainly stack (want (Valued p n ∷ Listing q t es ∷ stack)) (braced (depth stack))
 enumerator_named (Listing q t es ∷ stack) p n puncts.Comma =
-    plainly stack (state (Listing q t (then_enumerator es (plain p n)) ∷ stack) EnumeratorStart) (braced (depth stack))
-enumerator_named (Listing q t es ∷ stack) p n puncts.RightBrace = listed_at stack q t (then_enumerator es (plain p n)) false
+    plainly stack (state (Listing q t (then_enumerator es (plain p n)) ∷ stack) EnumeratorStart)
+    (braced (depth stack))
+enumerator_named (Listing q t es ∷ stack) p n puncts.RightBrace =
+    listed_at stack q t (then_enumerator es (plain p n)) false
 enumerator_named _ p n s = None
 
 abbrev pub step_enumerator_name : Place → List ℕ → List Frame → Symbol → Option Taken
