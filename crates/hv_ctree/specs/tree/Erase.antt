@@ -149,7 +149,7 @@ abbrev mutual
   pub member_declaration_of : StructDeclaration → plain.MemberDeclaration
   member_declaration_of (StructDeclarationOf' at _ xs _ ds) =
       plain.members_of at (type_words_row plain.no_specifiers xs)
-          (declarators_row plain.no_declarators ds)
+      (declarators_row plain.no_declarators ds)
 
   -- an enumeration
   pub enumeration_of : EnumSpecifier → plain.EnumSpecifier
@@ -212,7 +212,7 @@ abbrev mutual
   pub parameter_of : ParameterDeclaration → plain.Parameter
   parameter_of (Named' at _ xs _ d) =
       plain.parameter at (declared_words_row plain.no_specifiers xs)
-          (plain.some_declarator (declarator_of d))
+      (plain.some_declarator (declarator_of d))
   parameter_of (Abstract' at _ xs d) =
       plain.parameter at (declared_words_row plain.no_specifiers xs) (may_abstract_in d)
 

@@ -147,8 +147,10 @@ external_of (Empty at) = plain.empty at
 -- a program
 abbrev pub program_of : Program → plain.Program
 program_of program =
-    record { externals =
-    map (λ (r : Rc ExternalDeclaration Global). external_of r.value) program.externals }
+    record {
+      externals =
+          map (λ (r : Rc ExternalDeclaration Global). external_of r.value) program.externals;
+    }
 
 -- an element with holes
 abbrev pub skeleton_of : Skeleton → plain.Skeleton
@@ -156,7 +158,7 @@ skeleton_of (HollowEmpty at) = plain.hollow_empty at
 skeleton_of (HollowDeclaration at d) = plain.hollow_declaration at (declaration_of d.value)
 skeleton_of (HollowFunction at xs d body h) =
     plain.hollow_function at (erase.declared_words_after expressions.no_specifiers xs)
-        (declarator_of d.value) body h.number
+    (declarator_of d.value) body h.number
 skeleton_of (HollowCase at e h) = plain.hollow_case at (expr_of e.value) h.number
 skeleton_of (HollowDefault at h) = plain.hollow_default at h.number
 skeleton_of (HollowCompound at h) = plain.hollow_compound at h.number
@@ -170,7 +172,7 @@ skeleton_of (HollowFor at a b c h) =
     plain.hollow_for at (may_expr_of a) (may_expr_of b) (may_expr_of c) h.number
 skeleton_of (HollowForDeclaration at d b c h) =
     plain.hollow_for_declaration at (declaration_of d.value) (may_expr_of b) (may_expr_of c)
-        h.number
+    h.number
 skeleton_of (HollowContinue at) = plain.hollow_continue at
 skeleton_of (HollowBreak at) = plain.hollow_break at
 skeleton_of (HollowReturn at e) = plain.hollow_return at (may_expr_of e)
