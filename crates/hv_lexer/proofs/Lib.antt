@@ -1,25 +1,26 @@
 pub mod ByteTests
-pub mod LongerLemmas
+pub mod CommentLemmas
 pub mod CursorsLemmas
 mod Examples
-pub mod CommentLemmas
-pub mod SplicesLemmas
-pub mod LongestLemmas
+pub mod HeaderNames
+pub mod LongerLemmas
 mod LongestExamples
+pub mod LongestLemmas
+pub mod LongestStops
 pub mod LongestTokens
-pub mod TokenLemmas
-pub mod OneAnswer
 pub mod MadeOf
+pub mod OneAnswer
 pub mod Pieces
-pub mod ReadsBack
+pub mod PrefixCases
+pub mod PunctuatorTable
 pub mod Punctuators
 pub mod Reaches
+pub mod ReadsBack
 pub mod Rises
 pub mod Spellings
 pub mod Spliced
-pub mod LongestStops
+pub mod SplicesLemmas
+pub mod TokenLemmas
 pub mod Total
 pub mod Unspliced
-pub mod PrefixCases
 pub mod WholeToken
-pub mod HeaderNames

@@ -1,6 +1,8 @@
 //! Texts that are one token.
 
-ghost use Rattle.std.specs.Prelude.{◌≡◌, [], IfSome};
+ghost use Rattle.std.specs.Prelude.{◌≡◌, [], IfSome, is_some, true};
+ghost use Rattle.hv_base.specs.Puncts as puncts;
+ghost use Rattle.hv_base.specs.declared.punct.Punct.{Punct};
 ghost use Rattle.hv_lexer.specs.Laws.{IsLongestToken};
 ghost use Rattle.hv_toks.specs.Cutting as cutting;
 
@@ -24,6 +26,10 @@ pub fn whole_token(text: &[u8]) -> Option<PpKind>
     ensures value { result ≡ cutting.whole_token text.now }
     // all of it is the longest token that it begins with
     ensures longest { IfSome result (λ kind. IsLongestToken kind text.now []) }
+    // the punctuators are those of the table of spellings, all of them and no other
+    ensures punctuators { (sign : Punct) →
+        cutting.whole_token (puncts.spelling_of sign) ≡ Some PpKind.Punctuator }
+    ensures table { result ≡ Some PpKind.Punctuator → is_some (puncts.punct_of text.now) ≡ true }
 {
     if text.contains(&b'\n') {
         return None;
