@@ -75,13 +75,15 @@ pub data Reads : Features → ℕ → List (List ℕ) → Reading → Type 0 whe
       → list_any (bytes_eq name) m.names ≡ false
       → length m.names ≡ MOST_OPTIONS
       → Reads m n (line ∷ lines) (fault n TooMany)
-  rule : {m : Features} {n : ℕ} {line : List ℕ} {ts : List Token} {r : Rule} {lines : List (List ℕ)} {o : Reading}
+  rule : {m : Features} {n : ℕ} {line : List ℕ} {ts : List Token} {r : Rule}
+      {lines : List (List ℕ)} {o : Reading}
       → line_of line ≡ rule_line ts
       → IsRule m.names ts r
       → IsTrue (is_about (length m.names) r)
       → Reads (record { names = m.names; rules = m.rules ++ r ∷ [] }) (n + 1) lines o
       → Reads m n (line ∷ lines) o
-  unknown : {m : Features} {n : ℕ} {line : List ℕ} {ts : List Token} {r : Rule} {lines : List (List ℕ)}
+  unknown : {m : Features} {n : ℕ} {line : List ℕ} {ts : List Token} {r : Rule}
+      {lines : List (List ℕ)}
       → line_of line ≡ rule_line ts
       → IsRule m.names ts r
       → is_about (length m.names) r ≡ false

@@ -192,7 +192,8 @@ impl Parser {
     /// Takes a closing parenthesis, if one is open.
     fn close(&mut self) -> Result<bool, Memory>
         ensures { IfOk result
-            (λ went. IsTaken (after_close self.old.outer (expr_done self.old.top (items_of self.old.code)))
+            (λ went. IsTaken
+            (after_close self.old.outer (expr_done self.old.top (items_of self.old.code)))
             went (machine_of self.new)) }
     {
         self.end_expr()?;

@@ -33,30 +33,39 @@ first_rule [] = option 0
 first_rule (r ∷ _) = r
 
 -- a list that a rule was made into says that rule
-pub decoded-encoded : (r : Rule) (codes : List (ℕ ⊎ ℕ)) (rules : List Rule) → decoded (encoded r ++ codes) rules ≡ decoded codes (r ∷ rules)
+pub decoded-encoded : (r : Rule) (codes : List (ℕ ⊎ ℕ)) (rules : List Rule)
+    → decoded (encoded r ++ codes) rules ≡ decoded codes (r ∷ rules)
 decoded-encoded (option i) codes rules = refl
 decoded-encoded (negation r) codes rules =
-    ap (λ x. decoded x rules) (append_assoc (encoded r) (inr 0 ∷ []) codes) ∙ decoded-encoded r (inr 0 ∷ codes) rules
+    ap (λ x. decoded x rules) (append_assoc (encoded r) (inr 0 ∷ []) codes)
+    ∙ decoded-encoded r (inr 0 ∷ codes) rules
 decoded-encoded (conjunction r s) codes rules =
     ap (λ x. decoded x rules) (append_assoc (encoded r) (encoded s ++ inr 1 ∷ []) codes)
     ∙ (decoded-encoded r ((encoded s ++ inr 1 ∷ []) ++ codes) rules
-    ∙ (ap (λ x. decoded x (r ∷ rules)) (append_assoc (encoded s) (inr 1 ∷ []) codes) ∙ decoded-encoded s (inr 1 ∷ codes) (r ∷ rules)))
+    ∙ (ap (λ x. decoded x (r ∷ rules)) (append_assoc (encoded s) (inr 1 ∷ []) codes)
+    ∙ decoded-encoded s (inr 1 ∷ codes) (r ∷ rules)))
 decoded-encoded (disjunction r s) codes rules =
     ap (λ x. decoded x rules) (append_assoc (encoded r) (encoded s ++ inr 2 ∷ []) codes)
     ∙ (decoded-encoded r ((encoded s ++ inr 2 ∷ []) ++ codes) rules
-    ∙ (ap (λ x. decoded x (r ∷ rules)) (append_assoc (encoded s) (inr 2 ∷ []) codes) ∙ decoded-encoded s (inr 2 ∷ codes) (r ∷ rules)))
+    ∙ (ap (λ x. decoded x (r ∷ rules)) (append_assoc (encoded s) (inr 2 ∷ []) codes)
+    ∙ decoded-encoded s (inr 2 ∷ codes) (r ∷ rules)))
 decoded-encoded (implication r s) codes rules =
     ap (λ x. decoded x rules) (append_assoc (encoded r) (encoded s ++ inr 3 ∷ []) codes)
     ∙ (decoded-encoded r ((encoded s ++ inr 3 ∷ []) ++ codes) rules
-    ∙ (ap (λ x. decoded x (r ∷ rules)) (append_assoc (encoded s) (inr 3 ∷ []) codes) ∙ decoded-encoded s (inr 3 ∷ codes) (r ∷ rules)))
+    ∙ (ap (λ x. decoded x (r ∷ rules)) (append_assoc (encoded s) (inr 3 ∷ []) codes)
+    ∙ decoded-encoded s (inr 3 ∷ codes) (r ∷ rules)))
 
 -- rules as data
 abbrev pub rule_code : Coded Rule
 rule_code =
-    code_by (List (ℕ ⊎ ℕ)) (coded_list (coded⊎ coded_ℕ coded_ℕ)) encoded (λ codes. first_rule (decoded codes []))
-    (λ r. ap (λ x. first_rule (decoded x [])) (sym (append-nil (encoded r))) ∙ ap first_rule (decoded-encoded r [] []))
+    code_by (List (ℕ ⊎ ℕ)) (coded_list (coded⊎ coded_ℕ coded_ℕ)) encoded
+    (λ codes. first_rule (decoded codes []))
+    (λ r. ap (λ x. first_rule (decoded x [])) (sym (append-nil (encoded r)))
+    ∙ ap first_rule (decoded-encoded r [] []))
 
 -- models as data
 abbrev pub features_code : Coded Features
 features_code =
-    code_by (List (List ℕ) × List Rule) (coded× (coded_list (coded_list coded_ℕ)) (coded_list rule_code)) (λ m. (m.names, m.rules)) (λ p. record { names = p.0; rules = p.1 }) (λ _. refl)
+    code_by (List (List ℕ) × List Rule)
+    (coded× (coded_list (coded_list coded_ℕ)) (coded_list rule_code)) (λ m. (m.names, m.rules))
+    (λ p. record { names = p.0; rules = p.1 }) (λ _. refl)

@@ -42,7 +42,8 @@ negated_times (suc n) items = negated_times n (negated items)
 -- an operand after these `!` and `&&`
 abbrev pub completed : Frame → List Frame → List Item → Machine
 completed f outer items = have (frame 0 false f.disjunct f.premise) outer
-    (cond f.conjunct (conjoined (negated_times f.negations items)) (negated_times f.negations items))
+    (cond f.conjunct (conjoined (negated_times f.negations items))
+    (negated_times f.negations items))
 
 -- the right side of `||`
 abbrev pub or_done : Frame → List Item → List Item
@@ -69,7 +70,8 @@ step_wanting names f outer items _ = None
 -- a token after an operand; `None` where it may not stand there
 abbrev pub step_having : Frame → List Frame → List Item → Token → Option Machine
 step_having f outer items both = Some (want (frame 0 true f.disjunct f.premise) outer items)
-step_having f outer items either = Some (want (frame 0 false true f.premise) outer (or_done f items))
+step_having f outer items either =
+    Some (want (frame 0 false true f.premise) outer (or_done f items))
 step_having f outer items implies = Some (want (frame 0 false false true) outer
     (cond f.premise (supposed_too (or_done f items)) (supposed (or_done f items))))
 step_having f outer items close = after_close outer (expr_done f items)
@@ -78,7 +80,8 @@ step_having f outer items _ = None
 -- a token; `None` where it may not stand there
 abbrev pub step : List (List ℕ) → Machine → Token → Option Machine
 step names m token =
-    cond m.wants (step_wanting names m.top m.outer m.items token) (step_having m.top m.outer m.items token)
+    cond m.wants (step_wanting names m.top m.outer m.items token)
+    (step_having m.top m.outer m.items token)
 
 -- the rule at the end of the tokens; `None` where a parenthesis is open
 abbrev pub finished_at : List Frame → List Item → Option Rule
