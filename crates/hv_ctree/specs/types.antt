@@ -4,4 +4,5 @@ pub mod Kinds
 pub mod Layouts
 pub mod Compatible
 pub mod Composite
+pub mod Knowledge
 pub mod Conversions

@@ -75,7 +75,7 @@ repeated_within (Some n) (Some l) =
     ]
 
 -- the layouts of structures and unions are asked for at most one of them
-abbrev mutual
+mutual
   pub around : (of : ℕ → Option Layout) (t : PlainType) →
       layout_by of t ≡ layout_by (λ _. option_and_then of (innermost t)) t
   around of (plain constant shape) = around_shape of shape
@@ -91,7 +91,7 @@ abbrev mutual
   around_shape of (function result parameters variadic) = refl
 
 -- one beyond the limit makes what holds it none
-abbrev mutual
+mutual
   pub around_within : (o : Option Layout) (t : PlainType) →
       within_limit (layout_by (λ _. within_limit o) t) ≡ within_limit (layout_by (λ _. o) t)
   around_within o (plain constant shape) = around_shape_within o shape

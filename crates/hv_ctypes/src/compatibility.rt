@@ -1,4 +1,4 @@
-ghost use Rattle.std.specs.Prelude.{◌≡◌};
+ghost use Rattle.std.specs.Prelude.{◌≡◌, IsTrue};
 ghost use Rattle.hv_ctree.specs.types.Erasure.{type_of, shape_of, parameters_of};
 ghost use Rattle.hv_ctree.specs.types.Kinds as kinds;
 ghost use Rattle.hv_ctree.specs.types.Compatible as types;
@@ -10,6 +10,15 @@ use hv_ctree::{CType, IntKind, Shape, Types};
 /// Whether two types are compatible (ISO/IEC 9899:1999, 6.2.7). Two arrays are where one length is unknown; an
 /// array type within them has a length in both or in neither.
 pub fn compatible(_types: &Types, a: &CType, b: &CType) -> bool
+    ensures value { result ≡ types.compatible (type_of a.now) (type_of b.now) }
+    ensures symmetric { result ≡ types.compatible (type_of b.now) (type_of a.now) }
+    ensures itself { type_of a.now ≡ type_of b.now → IsTrue result }
+{
+    let compatible = types_compatible(a, b);
+    compatible
+}
+
+fn types_compatible(a: &CType, b: &CType) -> bool
     ensures { result ≡ types.compatible (type_of a.now) (type_of b.now) }
 {
     a.constant == b.constant && shapes_compatible(&a.shape, &b.shape)
@@ -34,7 +43,7 @@ fn lengths_agree(a: Option<u64>, b: Option<u64>) -> bool
     ensures { result ≡ types.lengths_agree a b }
 {
     match (a, b) {
-        (Some(a), Some(b)) => a == b,
+        (Some(one), Some(other)) => one == other,
         (None, _) | (_, None) => true,
     }
 }

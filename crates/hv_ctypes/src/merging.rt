@@ -2,6 +2,7 @@ ghost use Rattle.std.specs.Prelude.{◌≡◌, ◌++◌, ◌∷◌, [], false, I
 ghost use Rattle.hv_ctree.specs.types.Erasure.{type_of, shape_of, parameters_of};
 ghost use Rattle.hv_ctree.specs.types.Compatible as compatibility;
 ghost use Rattle.hv_ctree.specs.types.Composite as types;
+ghost use Rattle.hv_ctree.specs.types.Knowledge.{keeps};
 
 use hv_base::{List, Memory};
 use hv_ctree::{CType, Shape, Types};
@@ -13,6 +14,10 @@ use std::rc::Rc;
 pub fn composite(alloc: Global, _types: &Types, a: &CType, b: &CType) -> Result<CType, Memory>
     requires { IsTrue (compatibility.compatible (type_of a.now) (type_of b.now)) }
     ensures value { IfOk result (λ t. type_of t ≡ types.composite (type_of a.now) (type_of b.now)) }
+    ensures with_first { IfOk result (λ t. IsTrue (compatibility.compatible (type_of t) (type_of a.now))) }
+    ensures with_second { IfOk result (λ t. IsTrue (compatibility.compatible (type_of t) (type_of b.now))) }
+    ensures keeps_first { IfOk result (λ t. IsTrue (keeps (type_of t) (type_of a.now))) }
+    ensures keeps_second { IfOk result (λ t. IsTrue (keeps (type_of t) (type_of b.now))) }
 {
     let merged = merged(alloc, a, b)?;
     Ok(merged)
