@@ -1,4 +1,5 @@
 pub mod ConstantsLemmas
+mod ConstantsRows
 pub mod ReadsBack
 mod Examples
 pub mod Unique
