@@ -1,6 +1,7 @@
--- The store's own tables and steps. Read Nodes (the table of branches) and Orders (how the order is made, and the
--- variables of a table named anew), then Results and Complements (answers that are kept), Connectives (what computing
--- one does), Paths (walks down the branches) and Stores (what holds of a store).
+-- The store's own tables and steps. Read Nodes (the table of branches) and Orders (how the order is
+-- made, and the variables of a table named anew), then Results and Complements (answers that are
+-- kept), Connectives (what computing one does), Paths (walks down the branches) and Stores (what
+-- holds of a store).
 pub mod Complements
 pub mod Connectives
 pub mod Nodes

@@ -27,7 +27,8 @@ impl Complements {
 
     /// Forgets the complements, if there are more than some.
     pub(crate) fn trim(&mut self, most: usize)
-        ensures { (x c : Cond) → complement_of self.new x ≡ Some c → complement_of self.old x ≡ Some c }
+        ensures { (x c : Cond) → complement_of self.new x ≡ Some c
+            → complement_of self.old x ≡ Some c }
     {
         if self.answers.len() > most {
             self.answers.clear();
@@ -52,7 +53,8 @@ impl Complements {
     fn record(&mut self, c: Cond, answer: Cond)
         requires { 0 < room self.old }
         ensures answer { (x : Cond) →
-            complement_of self.new x ≡ (if same_cond c x then Some answer else complement_of self.old x) }
+            complement_of self.new x
+            ≡ (if same_cond c x then Some answer else complement_of self.old x) }
         ensures room { room self.old ≤ room self.new + 1 }
     {
         let Ok(_) = self.answers.insert(c, answer) else {

@@ -43,7 +43,8 @@ impl Connective {
     /// The answer where it is seen at once; else both conditions are branches.
     fn shortcut(self, a: Cond, b: Cond) -> Option<Cond>
         ensures answer { IfSome result
-            (λ c. (ds : List Decision) → a.index < top ds → b.index < top ds → IsAnswer self ds a b c) }
+            (λ c. (ds : List Decision) → a.index < top ds → b.index < top ds
+            → IsAnswer self ds a b c) }
         ensures branches { IfNone result ((2 ≤ a.index) × (2 ≤ b.index)) }
     {
         let absorbing = self.absorbing();

@@ -118,7 +118,8 @@ impl Nodes {
         ensures reduced { IsReduced self.new }
         ensures extends { Extends self.old self.new }
         ensures grows { length (newest_first self.new) ≤ length (newest_first self.old) + 1 }
-        ensures err { OnErr result (length (newest_first self.new) ≡ length (newest_first self.old)) }
+        ensures err { OnErr result (length (newest_first self.new)
+            ≡ length (newest_first self.old)) }
         ensures node { IfOk result (λ c. c.index < top (newest_first self.new)) }
         ensures meaning { IfOk result
             (λ c. (v : List Bool) →

@@ -19,7 +19,8 @@ impl Order {
     /// The variables of `first`, each where it stands first in it, and then the others by number.
     pub(crate) fn new(alloc: Global, vars: u32, first: &[u32]) -> Result<Order, AllocError>
         ensures order { IfOk result (IsOrder vars) }
-        ensures variables { IfOk result (λ order. order.variables.items ≡ order_from vars first.now) }
+        ensures variables { IfOk result (λ order. order.variables.items
+            ≡ order_from vars first.now) }
     {
         let variables = arrange(alloc, vars, first)?;
         let positions = invert(alloc, vars, &variables)?;

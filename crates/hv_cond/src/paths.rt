@@ -72,8 +72,10 @@ fn lower(
         (holds_in (newest_first nodes.now) c (by_position order.now.variables.items values.new.items) ≡ true) }
     ensures before { OnOk result (Agrees variable values.new.items values.old.items) }
     ensures least { OnOk result (value_of values.new.items variable ≡ true
-        → (others : List Bool) → Agrees variable others values.old.items → value_of others variable ≡ false
-        → holds_in (newest_first nodes.now) c (by_position order.now.variables.items others) ≡ false) }
+        → (others : List Bool) → Agrees variable others values.old.items
+        → value_of others variable ≡ false
+        → holds_in (newest_first nodes.now) c (by_position order.now.variables.items others)
+        ≡ false) }
 {
     if !values[variable as usize] {
         return Ok(());

@@ -58,7 +58,8 @@ impl Results {
     pub(crate) fn record(&mut self, a: Cond, b: Cond, answer: Cond)
         requires { 0 < room self.old }
         ensures { (x y : Cond) →
-            known self.new x y ≡ (if is_same_pair a b x y then Some answer else known self.old x y) }
+            known self.new x y
+            ≡ (if is_same_pair a b x y then Some answer else known self.old x y) }
     {
         let Ok(_) = self.answers.insert(ordered(a, b), answer) else {
             unreachable!()

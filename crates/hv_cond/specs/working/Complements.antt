@@ -31,10 +31,15 @@ pub record IsComplement (ds : List Decision) (a c : Cond) : Type 0 where
 pub record AreComplements (ds : List Decision) (complements : Complements) : Type 0 where
   pub each : (a c : Cond) → complement_of complements a ≡ Some c → IsComplement ds a c
 
--- what computing the complement of a does: each branch that is added uses up a branch reached from a
+-- what computing the complement of a does: each branch that is added uses up a branch reached from
+-- a
 pub record GrowsBy (old new : Nodes) (before after : Complements) (a : Cond) : Type 0 where
   pub reduced : IsReduced new
   pub extends : Extends old new
   pub answers : AreComplements (newest_first new) after
-  pub earlier : (x : Cond) → x.index < top (newest_first old) → level old.variables (newest_first old) x < level old.variables (newest_first old) a → complement_of after x ≡ complement_of before x
-  pub bound : (xs : List Cond) → IsClosed (newest_first old) xs → Within xs a → length (newest_first new) + open_among (complement_of after) xs ≤ length (newest_first old) + open_among (complement_of before) xs
+  pub earlier : (x : Cond) → x.index < top (newest_first old)
+      → level old.variables (newest_first old) x < level old.variables (newest_first old) a
+      → complement_of after x ≡ complement_of before x
+  pub bound : (xs : List Cond) → IsClosed (newest_first old) xs → Within xs a
+      → length (newest_first new) + open_among (complement_of after) xs
+      ≤ length (newest_first old) + open_among (complement_of before) xs

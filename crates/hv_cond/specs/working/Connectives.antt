@@ -30,7 +30,8 @@ pub record IsAnswer (connective : Connective) (ds : List Decision) (a b c : Cond
   pub first : a.index < top ds
   pub second : b.index < top ds
   pub node : c.index < top ds
-  pub meaning : (v : List Bool) → holds_in ds c v ≡ apply connective (holds_in ds a v) (holds_in ds b v)
+  pub meaning : (v : List Bool)
+      → holds_in ds c v ≡ apply connective (holds_in ds a v) (holds_in ds b v)
 
 -- each answer that was kept is right
 pub record AreAnswers (connective : Connective) (ds : List Decision) (results : Results) : Type 0 where
@@ -46,11 +47,15 @@ abbrev pub open_pairs : (Cond → Cond → Option Cond) → List Cond → List C
 open_pairs answer [] ys = 0
 open_pairs answer (x ∷ xs) ys = open_among (answer x) ys + open_pairs answer xs ys
 
--- what computing the connective of a and b does: each branch that is added uses up a pair of those reached from a and b
+-- what computing the connective of a and b does: each branch that is added uses up a pair of those
+-- reached from a and b
 pub record Grows (connective : Connective) (old new : Nodes) (before after : Results) (a b : Cond) : Type 0 where
   pub reduced : IsReduced new
   pub extends : Extends old new
   pub answers : AreAnswers connective (newest_first new) after
-  pub later : (x y : Cond) → a.index + b.index < x.index + y.index → known after x y ≡ known before x y
-  pub bound : (xs ys : List Cond) → IsClosed (newest_first old) xs → IsClosed (newest_first old) ys → Within xs a → Within ys b
-      → length (newest_first new) + open_pairs (known after) xs ys ≤ length (newest_first old) + open_pairs (known before) xs ys
+  pub later : (x y : Cond) → a.index + b.index < x.index + y.index
+      → known after x y ≡ known before x y
+  pub bound : (xs ys : List Cond) → IsClosed (newest_first old) xs
+      → IsClosed (newest_first old) ys → Within xs a → Within ys b
+      → length (newest_first new) + open_pairs (known after) xs ys
+      ≤ length (newest_first old) + open_pairs (known before) xs ys

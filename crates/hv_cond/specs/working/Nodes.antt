@@ -1,5 +1,6 @@
--- What holds of the table of nodes: no branch is superfluous, none stands twice, and variables come in order. In the table
--- a variable is named by its position in the store's order, so here the order is that of the numbers.
+-- What holds of the table of nodes: no branch is superfluous, none stands twice, and variables come
+-- in order. In the table a variable is named by its position in the store's order, so here the
+-- order is that of the numbers.
 use Rattle.std.specs.Prelude.{◌≡◌, ◌≢◌, ◌==◌, ◌<◌, ◌≤◌, ℕ, Bool, ◌&&◌, ◌⊎◌, if◌then◌else◌, List, [], ◌∷◌, ◌++◌, reverse, Option, Some, None}
 use Rattle.std.specs.HashMap.{get}
 use Rattle.hv_cond.specs.declared.conditions.Cond.{Cond}
@@ -23,12 +24,16 @@ level variables (d ∷ older) c = if c.index == top older then d.variable else l
 
 -- whether two branches are the same
 abbrev pub same_decision : Decision → Decision → Bool
-same_decision d e = d.variable == e.variable && (d.low.index == e.low.index && d.high.index == e.high.index)
+same_decision d e =
+    d.variable == e.variable && (d.low.index == e.low.index && d.high.index == e.high.index)
 
 -- where a branch stands
 unfoldable pub place_of : List Decision → Decision → Option Cond
 place_of [] e = None
-place_of (d ∷ older) e = if same_decision d e then Some (record { index = top older }) else place_of older e
+place_of (d ∷ older) e = if same_decision d e then Some (record {
+  index =
+      top older;
+}) else place_of older e
 
 -- a branch may stand before these
 pub record IsDecision (variables : ℕ) (older : List Decision) (d : Decision) : Type 0 where
@@ -78,7 +83,8 @@ Within xs c = 2 ≤ c.index → Among xs c
 -- a list of branches has their children, unless they are terminals
 pub record IsClosed (ds : List Decision) (xs : List Cond) : Type 0 where
   pub nodes : (c : Cond) → Among xs c → c.index < top ds
-  pub children : (c : Cond) (i : ℕ) (low high : Cond) → Among xs c → node_in ds c ≡ Branch i low high → Within xs low × Within xs high
+  pub children : (c : Cond) (i : ℕ) (low high : Cond) → Among xs c
+      → node_in ds c ≡ Branch i low high → Within xs low × Within xs high
 
 -- what a condition means where a variable is false, and where it is true
 pub record IsHalves (variables : ℕ) (ds : List Decision) (c : Cond) (i : ℕ) (low high : Cond) : Type 0 where
@@ -87,7 +93,8 @@ pub record IsHalves (variables : ℕ) (ds : List Decision) (c : Cond) (i : ℕ) 
   pub smaller : level variables ds c ≡ i → (low.index < c.index) × (high.index < c.index)
   pub low_later : i < level variables ds low
   pub high_later : i < level variables ds high
-  pub meaning : (v : List Bool) → holds_in ds c v ≡ (if value_of v i then holds_in ds high v else holds_in ds low v)
+  pub meaning : (v : List Bool)
+      → holds_in ds c v ≡ (if value_of v i then holds_in ds high v else holds_in ds low v)
   pub within : (xs : List Cond) → IsClosed ds xs → Within xs c → Within xs low × Within xs high
 
 -- the new table has the old one's branches behind those that were added

@@ -17,14 +17,16 @@ Agrees fixed values others = (i : ℕ) → i < fixed → value_of values i ≡ v
 -- no assignment that gives the variables below this number these values satisfies the condition
 abbrev pub IsHopeless : List ℕ → List Decision → ℕ → List Bool → Cond → Type 0
 IsHopeless order ds fixed values c =
-    (others : List Bool) → Agrees fixed others values → holds_in ds c (by_position order others) ≡ false
+    (others : List Bool) → Agrees fixed others values
+    → holds_in ds c (by_position order others) ≡ false
 
 -- each condition that is marked is hopeless
 abbrev pub AreHopeless : List ℕ → List Decision → ℕ → List Bool → List Bool → Type 0
 AreHopeless order ds fixed values marks =
     (c : Cond) → slice_index_or marks c.index false ≡ true → IsHopeless order ds fixed values c
 
--- a search has changed no variable below this number, and none that stands before this place of the order
+-- a search has changed no variable below this number, and none that stands before this place of the
+-- order
 pub record Leaves (order : List ℕ) (fixed place : ℕ) (before after : List Bool) : Type 0 where
   pub fixed_ones : Agrees fixed after before
   pub above : (k : ℕ) → k < place

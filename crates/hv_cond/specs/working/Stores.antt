@@ -9,8 +9,10 @@ use Rattle.hv_cond.specs.working.Connectives.{AreAnswers}
 use Rattle.hv_cond.specs.working.Nodes.{newest_first, IsReduced}
 use Rattle.hv_cond.specs.working.Orders.{IsOrder}
 
--- the order has each variable, the table of nodes is reduced, and each answer that was kept is right
-pub record IsSound (order : Order) (nodes : Nodes) (conjunctions disjunctions : Results) (complements : Complements) : Type 0 where
+-- the order has each variable, the table of nodes is reduced, and each answer that was kept is
+-- right
+pub record IsSound (order : Order) (nodes : Nodes) (conjunctions disjunctions : Results)
+    (complements : Complements) : Type 0 where
   pub ordered : IsOrder nodes.variables order
   pub reduced : IsReduced nodes
   pub conjunctions_right : AreAnswers And (newest_first nodes) conjunctions
