@@ -1,5 +1,5 @@
--- Bytes that have names, and classes of bytes (5.2.1, 6.4). Each class has a function of the same name in
--- `hv_base`. Not in here: universal character names.
+-- Bytes that have names, and classes of bytes (5.2.1, 6.4). Each class has a function of the same
+-- name in `hv_base`. Not in here: universal character names.
 use Rattle.std.specs.Prelude.{ℕ, Bool, ◌&&◌, ◌||◌, ◌==◌, nat_le, List}
 use Rattle.std.specs.List.{list_any}
 use Rattle.std.specs.Str.{bytes_eq}
@@ -198,7 +198,9 @@ is_newline byte = byte == newline
 
 -- white space within a line (6.4): a space, a tab, a vertical tab, a form feed or a carriage return
 abbrev pub is_line_space : ℕ → Bool
-is_line_space byte = byte == space || byte == tab || byte == vertical_tab || byte == form_feed || byte == carriage_return
+is_line_space byte =
+    byte == space || byte == tab || byte == vertical_tab || byte == form_feed
+    || byte == carriage_return
 
 -- a byte that prints as one character
 abbrev pub is_printable : ℕ → Bool

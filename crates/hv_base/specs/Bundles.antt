@@ -5,7 +5,8 @@ use Rattle.std.specs.Str.{bytes_eq}
 use Rattle.hv_base.specs.declared.held.Held.{Held}
 use Rattle.hv_base.specs.declared.held.Held.TheVariants.{Bytes}
 
--- the main file's name, the include folders, and each added name with what is held under it, all in order
+-- the main file's name, the include folders, and each added name with what is held under it, all in
+-- order
 pub record NamedFiles : Type 0 where
   pub main : List ℕ
   pub dirs : List (List ℕ)
@@ -19,7 +20,8 @@ names_in bundle = map (λ e. e.0) bundle.entries
 abbrev pub held_at : NamedFiles → List ℕ → Option Held
 held_at bundle name = lookup (bytes_eq name) bundle.entries
 
--- the file number of the name, which is its place in the order of adding; `None` where it wasn't added
+-- the file number of the name, which is its place in the order of adding; `None` where it wasn't
+-- added
 abbrev pub number_at : NamedFiles → List ℕ → Option ℕ
 number_at bundle name = position (bytes_eq name) (names_in bundle)
 

@@ -1,5 +1,5 @@
--- The keywords of the profile and their spellings (6.4.1).
--- Not in here: `goto`, `float`, `double`, `volatile`, `_Complex` and `_Imaginary`, which the profile leaves out.
+-- The keywords of the profile and their spellings (6.4.1). Not in here: `goto`, `float`, `double`,
+-- `volatile`, `_Complex` and `_Imaginary`, which the profile leaves out.
 use Rattle.std.specs.Prelude.{ℕ, List, [], ◌∷◌, codes, Option, find}
 use Rattle.std.specs.Str.{bytes_eq}
 use Rattle.hv_base.specs.declared.keyword.Keyword.{Keyword}

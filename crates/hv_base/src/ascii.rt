@@ -44,8 +44,8 @@ pub fn is_blank(byte: u8) -> bool
     byte == b' ' || byte == b'\t'
 }
 
-/// Whether the byte is white space within a line (6.4): a space, a tab, a vertical tab, a form feed or
-/// a carriage return.
+/// Whether the byte is white space within a line (6.4): a space, a tab, a vertical tab, a form feed
+/// or a carriage return.
 #[inline]
 pub fn is_line_space(byte: u8) -> bool
     ensures { result ≡ ascii.is_line_space byte }

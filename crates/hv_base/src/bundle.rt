@@ -10,8 +10,8 @@ use indexmap::IndexMap;
 use std::alloc::Global;
 use std::marker::Model;
 
-/// Named files and names that were found absent, in the order of adding, with the main file's name and
-/// the include folders. Contracts see it as `bundles.NamedFiles`.
+/// Named files and names that were found absent, in the order of adding, with the main file's name
+/// and the include folders. Contracts see it as `bundles.NamedFiles`.
 #[derive(Drop)]
 pub struct Bundle {
     alloc: Global,
@@ -28,7 +28,11 @@ impl Model for Bundle {
 
     ghost Value = { NamedFiles };
 
-    ghost view = { λ b. record { main = string_bytes b.main; dirs = map string_bytes b.dirs.items; entries = map (λ e. (string_bytes e.0, e.1)) b.files.entries } };
+    ghost view = { λ b. record {
+      main = string_bytes b.main;
+      dirs = map string_bytes b.dirs.items;
+      entries = map (λ e. (string_bytes e.0, e.1)) b.files.entries;
+    } };
 
     ghost invariant = { λ b. length b.files.entries ≤ MOST_NAMES };
 }
@@ -47,7 +51,8 @@ fn copied(alloc: Global, names: &[String]) -> Result<Vec<String>, Memory>
 impl Bundle {
     /// No file yet, with this main file's name and these include folders, in order.
     pub fn new(alloc: Global, main: &str, dirs: &[String]) -> Result<Bundle, Memory>
-        ensures { IfOk result (λ bundle. bundle ≡ record { main = main.now; dirs = map string_bytes dirs.now; entries = [] }) }
+        ensures { IfOk result (λ bundle.
+            bundle ≡ record { main = main.now; dirs = map string_bytes dirs.now; entries = [] }) }
     {
         Ok(Bundle {
             alloc,
@@ -61,7 +66,8 @@ impl Bundle {
     pub fn add(&mut self, name: &str, held: Held) -> Result<u32, Memory>
         requires new { bundles.held_at self.old name.now ≡ None }
         requires room { length self.old.entries < MOST_NAMES }
-        ensures ok { IfOk result (λ file. self.new ≡ record self.old { entries = self.old.entries ++ (name.now, held) ∷ [] }) }
+        ensures ok { IfOk result (λ file.
+            self.new ≡ record self.old { entries = self.old.entries ++ (name.now, held) ∷ [] }) }
         ensures number { IfOk result (λ file. file ≡ length self.old.entries) }
         ensures unchanged { OnErr result (self.new ≡ self.old) }
     {

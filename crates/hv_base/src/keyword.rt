@@ -3,8 +3,8 @@ ghost use Rattle.std.specs.Str.{bytes_eq};
 ghost use Rattle.hv_base.specs.Keywords as keywords;
 ghost use Rattle.hv_base.specs.declared.keyword.Keyword.{Keyword as KeywordOf};
 
-/// A keyword of the profile (ISO/IEC 9899:1999, 6.4.1, without `goto`, `float`, `double`, `volatile`,
-/// `_Complex` and `_Imaginary`).
+/// A keyword of the profile (ISO/IEC 9899:1999, 6.4.1, without `goto`, `float`, `double`,
+/// `volatile`, `_Complex` and `_Imaginary`).
 #[derive(Clone, Copy, Debug, PartialEq, Eq)]
 pub enum Keyword {
     Auto,
@@ -97,7 +97,9 @@ impl Keyword {
 /// The keywords that begin with this byte.
 // SAME: keywords
 fn beginning_with(first: u8) -> &'static [Keyword]
-    ensures { (rest : List ℕ) → find (λ word. bytes_eq (first ∷ rest) (keywords.spelling_of word)) result.now ≡ keywords.keyword_of (first ∷ rest) }
+    ensures { (rest : List ℕ)
+        → find (λ word. bytes_eq (first ∷ rest) (keywords.spelling_of word)) result.now
+        ≡ keywords.keyword_of (first ∷ rest) }
 {
     match first {
         b'a' => &[Keyword::Auto],

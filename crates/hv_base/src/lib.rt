@@ -1,5 +1,5 @@
-//! What every crate of Hercules speaks of: lists, texts, places in sources, tokens of C, configurations
-//! and the causes of refusals.
+//! What every crate of Hercules speaks of: lists, texts, places in sources, tokens of C,
+//! configurations and the causes of refusals.
 #![tactic(auto)]
 
 mod ascii;

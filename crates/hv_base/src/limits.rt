@@ -24,7 +24,8 @@ pub const MOST_GROUPS: usize = 256;
 /// The most statements that are open at a place, a function's body counting as one.
 pub const MOST_STATEMENTS: usize = 256;
 
-/// The most brackets and prefixes of an expression, declarator or initialiser that are open at a place.
+/// The most brackets and prefixes of an expression, declarator or initialiser that are open at a
+/// place.
 pub const MOST_BRACKETS: usize = 256;
 
 /// The most operators of an expression that stands in no other.

@@ -154,7 +154,8 @@ impl<T: PartialEq> PartialEq for List<T> {
     /// Whether the items are equal, one by one. Where `==` at an item is exact, so is this.
     fn eq(&self, other: &List<T>) -> bool
         ensures value { result ≡ pointwise T.eq self.now other.now }
-        ensures exact { ((a b : T) → Decides (T.eq a b) (a ≡ b)) → Decides result (self.now ≡ other.now) }
+        ensures exact { ((a b : T) → Decides (T.eq a b) (a ≡ b))
+            → Decides result (self.now ≡ other.now) }
     {
         self.as_slice() == other.as_slice()
     }

@@ -34,7 +34,8 @@ impl PartialEq for Place {
     ghost use Rattle.std.proofs.Common.{rules};
     ghost use Rattle.std.specs.Cmp.Rules.{comparing};
 
-    ghost eq = { λ a b. pointwise nat_eq a.stack b.stack && (nat_eq a.file b.file && nat_eq a.offset b.offset) };
+    ghost eq = { λ a b. pointwise nat_eq a.stack b.stack
+        && (nat_eq a.file b.file && nat_eq a.offset b.offset) };
 
     ghost laws = { Prim.search (comparing, rules) };
 
@@ -94,8 +95,9 @@ impl PartialEq for Start {
     ghost use Rattle.std.proofs.Common.{rules};
     ghost use Rattle.std.specs.Cmp.Rules.{comparing};
 
-    ghost eq = { λ a b. pointwise nat_eq a.place.stack b.place.stack && (nat_eq a.place.file b.place.file
-        && (nat_eq a.place.offset b.place.offset && (nat_eq a.face b.face && nat_eq a.index b.index))) };
+    ghost eq = { λ a b. pointwise nat_eq a.place.stack b.place.stack
+        && (nat_eq a.place.file b.place.file && (nat_eq a.place.offset b.place.offset
+        && (nat_eq a.face b.face && nat_eq a.index b.index))) };
 
     ghost laws = { Prim.search (comparing, rules) };
 

@@ -177,7 +177,9 @@ impl Punct {
 /// The punctuators that begin with this byte.
 // SAME: puncts
 fn beginning_with(first: u8) -> &'static [Punct]
-    ensures { (rest : List ℕ) → find (λ sign. bytes_eq (first ∷ rest) (puncts.spelling_of sign)) result.now ≡ puncts.punct_of (first ∷ rest) }
+    ensures { (rest : List ℕ)
+        → find (λ sign. bytes_eq (first ∷ rest) (puncts.spelling_of sign)) result.now
+        ≡ puncts.punct_of (first ∷ rest) }
 {
     match first {
         b'[' => &[Punct::LeftBracket],

@@ -79,11 +79,12 @@ impl<T: Drop> Stack<T> {
         Ok(())
     }
 
-    /// Puts `item` in the place of the last pushed item, which it hands back; where there is none, it
-    /// drops `item` and answers `None`.
+    /// Puts `item` in the place of the last pushed item, which it hands back; where there is none,
+    /// it drops `item` and answers `None`.
     pub fn replace_top(&mut self, item: T) -> Option<T>
         ensures none { IfNone result ((self.old ≡ []) × (self.new ≡ [])) }
-        ensures some { IfSome result (λ top. (rest : List T) × (self.old ≡ top ∷ rest) × (self.new ≡ item ∷ rest)) }
+        ensures some { IfSome result (λ top.
+            (rest : List T) × (self.old ≡ top ∷ rest) × (self.new ≡ item ∷ rest)) }
     {
         let top = self.items.pop()?;
         match self.items.push(item) {

@@ -11,7 +11,8 @@ pub enum Status {
     Refused,
     /// The words are no command, or the given configuration is no valid one.
     BadWords,
-    /// A file or the input couldn't be read, the main or model file is absent, or files are too big.
+    /// A file or the input couldn't be read, the main or model file is absent, or files are too
+    /// big.
     Unread,
     /// A write failed.
     Unwritten,

@@ -7,13 +7,15 @@ ghost use Rattle.hv_base.specs.Why.{number_of, name_of};
 pub enum Why {
     /// A comment of an entered file isn't closed (6.4.9); the place is its `/`.
     OpenComment,
-    /// A directive of an active group is none that is known (6.10), an `#ifdef` or `#ifndef` lacks its
-    /// name, or an `#include` its header name.
+    /// A directive of an active group is none that is known (6.10), an `#ifdef` or `#ifndef` lacks
+    /// its name, or an `#include` its header name.
     BadDirective,
-    /// `#elif`, `#else` or `#endif` without an open group, `#elif` or `#else` after `#else`, or a file
-    /// ends with an open group (6.10.1); the place is then the `#` that opened the innermost one.
+    /// `#elif`, `#else` or `#endif` without an open group, `#elif` or `#else` after `#else`, or a
+    /// file ends with an open group (6.10.1); the place is then the `#` that opened the innermost
+    /// one.
     Unbalanced,
-    /// A controlling expression that is evaluated is none, divides by zero or shifts too far (6.10.1).
+    /// A controlling expression that is evaluated is none, divides by zero or shifts too far
+    /// (6.10.1).
     BadCondition,
     /// `#error` in an active group (6.10.5).
     ErrorDirective,
@@ -22,25 +24,25 @@ pub enum Why {
     /// An include would be the 65th that is open (6.10.2, 5.2.4.1).
     IncludeTooDeep,
     /// `#define` or `#undef` without a name or with a name that is kept, a malformed or repeated
-    /// parameter, `__VA_ARGS__` in the body of a macro without `...`, `#` in a function-like body not
-    /// before a parameter, or `##` at an end of the body (6.10.3, 6.10.3.2, 6.10.3.3, 6.10.8).
+    /// parameter, `__VA_ARGS__` in the body of a macro without `...`, `#` in a function-like body
+    /// not before a parameter, or `##` at an end of the body (6.10.3, 6.10.3.2, 6.10.3.3, 6.10.8).
     BadDefine,
-    /// A wrong number of arguments, or the file, the controlling line or an argument that is expanded
-    /// by itself ends before `)` (6.10.3).
+    /// A wrong number of arguments, or the file, the controlling line or an argument that is
+    /// expanded by itself ends before `)` (6.10.3).
     BadInvocation,
-    /// A directive before the `)` of an invocation, or directly after a function-like macro's name that
-    /// could be replaced (6.10.3).
+    /// A directive before the `)` of an invocation, or directly after a function-like macro's name
+    /// that could be replaced (6.10.3).
     DirectiveInArguments,
     /// `##` doesn't give one preprocessing token (6.10.3.3).
     BadPaste,
     /// An expansion has more than 65,536 events.
     EpisodeTooLong,
-    /// A number that is no integer constant and no floating constant, or is too large; a bad character
-    /// constant or escape (6.4.4).
+    /// A number that is no integer constant and no floating constant, or is too large; a bad
+    /// character constant or escape (6.4.4).
     BadConstant,
-    /// What the profile leaves out: floating and wide constants, some keywords and names; in typing brace
-    /// elision, a misplaced case label, block-scope `extern`, a variadic definition, a tag first
-    /// mentioned in a parameter list, a cast between pointer and integer.
+    /// What the profile leaves out: floating and wide constants, some keywords and names; in typing
+    /// brace elision, a misplaced case label, block-scope `extern`, a variadic definition, a tag
+    /// first mentioned in a parameter list, a cast between pointer and integer.
     LeftOut,
     /// A token that is no C token, or a place where the grammar ends (6.5 to 6.9).
     Syntax,
@@ -50,11 +52,11 @@ pub enum Why {
     Undeclared,
     /// A second declaration that the standard forbids, or with an incompatible type (6.7).
     Redeclared,
-    /// Any other constraint of 6.5 to 6.9; an incomplete type where a complete one is needed, `main` of
-    /// another form, an object or a type larger than the limit on objects.
+    /// Any other constraint of 6.5 to 6.9; an incomplete type where a complete one is needed,
+    /// `main` of another form, an object or a type larger than the limit on objects.
     BadType,
-    /// A constant expression or a static initialiser isn't constant, or its value is out of its type's
-    /// range (6.6, 6.7.8).
+    /// A constant expression or a static initialiser isn't constant, or its value is out of its
+    /// type's range (6.6, 6.7.8).
     NotConstant,
     /// Two equal case values or two defaults of one switch (6.8.4.2).
     DuplicateCase,
