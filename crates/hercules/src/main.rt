@@ -1,6 +1,7 @@
 //! The program `hercules`: it makes the real files, input and sinks, and hands them to the top call.
 #![tactic(auto)]
 
+use hv_base::Status;
 use hv_encode::hercules;
 use hv_outside::{DirFiles, StdSink, StdSource, write_all};
 use std::alloc::AllocError;
@@ -9,14 +10,11 @@ use std::io::ErrorKind;
 use std::process::ExitCode;
 use std::rt::Env;
 
-/// The status for want of memory.
-const WANT_OF_MEMORY: u8 = 5;
-
 fn main(rt: HostRuntime) -> ExitCode {
     let mut err = StdSink::new(rt.stderr());
     let Ok(words) = words(&rt) else {
         let _ = write_all(&mut err, b"hercules: want of memory\n");
-        return ExitCode::from(WANT_OF_MEMORY);
+        return ExitCode::from(Status::Memory.code());
     };
     let mut files = DirFiles::new(&rt);
     let mut input = StdSource::new(rt.stdin());
@@ -32,7 +30,8 @@ fn main(rt: HostRuntime) -> ExitCode {
     ExitCode::from(status)
 }
 
-/// The words behind the program's name. Words that are no UTF-8 make no command, so they count as none.
+/// The arguments, after the program's name. Arguments that aren't UTF-8 make no command, so they
+/// count as none.
 fn words<R: Env + AllocGlobal>(rt: &R) -> Result<Vec<String>, AllocError> {
     match env::args(rt) {
         Ok(words) => words.skip(1).collect(rt.alloc()),

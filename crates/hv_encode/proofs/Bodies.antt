@@ -7,13 +7,13 @@ use Rattle.std.proofs.lemmas.List.Quantifiers.{position-Some}
 use Rattle.std.proofs.lemmas.List.Elements.{All-from_get_or, All-push, All-head, All-tail}
 use Rattle.std.proofs.lemmas.List.Splits.{slice_split_at, slice_split_none, join_with_byte-slice_split}
 use Rattle.std.proofs.lemmas.List.Sums.{fails_before_first}
-use Rattle.hv_model.specs.Bytes.{is_newline}
+use Rattle.hv_base.specs.Ascii.{is_newline}
 use Rattle.hv_plain.specs.Bytes.{trimmed}
 use Rattle.hv_plain.specs.Source as source
-use Rattle.hv_plain.specs.Source.{IsLine, spelled, put, if_defined, if_not_defined, otherwise, end_if}
-use Rattle.hv_encode.specs.declared.line.Line.{Line}
-use Rattle.hv_encode.specs.Lines.{IsKnown, IsCutInto, plain}
-use Rattle.hv_encode.proofs.Lists.{heads}
+use Rattle.hv_plain.specs.Source.{IsSourceLine, spelled, put, if_defined, if_not_defined, otherwise, end_if}
+use Rattle.hv_encode.specs.declared.small.line.BodyLine.{BodyLine}
+use Rattle.hv_encode.specs.working.Lines.{IsKnown, IsCutInto, plain}
+use Rattle.hv_base.proofs.Lists.{heads}
 use Rattle.hv_encode.proofs.Reading.{passed}
 use Rattle.hv_encode.proofs.Sources.{differ_at}
 
@@ -95,7 +95,7 @@ pub cut_empty : IsCutInto [] []
 cut_empty = record { texts = []; cut = refl; is_trimmed = refl }
 
 -- a line of a body is not the closing one
-pub not_closing : (line : source.Line) → spelled line ≡ codes "}" → ⊥
+pub not_closing : (line : source.SourceLine) → spelled line ≡ codes "}" → ⊥
 not_closing (put n) e = differ_at 0 (spelled (put n)) (codes "}") e refl
 not_closing (if_defined name) e = differ_at 0 (spelled (if_defined name)) (codes "}") e refl
 not_closing (if_not_defined name) e = differ_at 0 (spelled (if_not_defined name)) (codes "}") e refl
@@ -104,20 +104,20 @@ not_closing end_if e = differ_at 0 (spelled end_if) (codes "}") e refl
 
 module _ (names : List (List ℕ)) where
   -- how far the text is read: these lines, and the rest
-  pub record IsRead (text rest : List ℕ) (lines : List Line) : Type 0 where
+  pub record IsRead (text rest : List ℕ) (lines : List BodyLine) : Type 0 where
     pub known : All (IsKnown names) lines
     pub onto : (tail : List (List ℕ)) → IsCutInto rest tail → IsCutInto text (map spelled (map (plain names) lines) ++ tail)
-    pub kept : (body : List source.Line) → All (IsLine names) body → IsCutInto text (map spelled body ++ closing)
-        → (more : List source.Line) × All (IsLine names) more × IsCutInto rest (map spelled more ++ closing)
+    pub kept : (body : List source.SourceLine) → All (IsSourceLine names) body → IsCutInto text (map spelled body ++ closing)
+        → (more : List source.SourceLine) × All (IsSourceLine names) more × IsCutInto rest (map spelled more ++ closing)
 
-  next_kept : (part rest behind : List ℕ) (line : source.Line) (more : List source.Line) → parts rest ≡ part ∷ parts behind → trimmed part ≡ spelled line → All (IsLine names) more
-      → IsCutInto rest (map spelled more ++ closing) → (later : List source.Line) × All (IsLine names) later × IsCutInto behind (map spelled later ++ closing)
+  next_kept : (part rest behind : List ℕ) (line : source.SourceLine) (more : List source.SourceLine) → parts rest ≡ part ∷ parts behind → trimmed part ≡ spelled line → All (IsSourceLine names) more
+      → IsCutInto rest (map spelled more ++ closing) → (later : List source.SourceLine) × All (IsSourceLine names) later × IsCutInto behind (map spelled later ++ closing)
   next_kept part rest behind line [] e t each h =
       absurd (not_closing line (sym t ∙ (cut_kept rest part behind (codes "}") [] e h).0))
   next_kept part rest behind line (first ∷ more) e t each h =
-      (more, All-tail (IsLine names) first more each, (cut_kept rest part behind (spelled first) (map spelled more ++ closing) e h).1)
+      (more, All-tail (IsSourceLine names) first more each, (cut_kept rest part behind (spelled first) (map spelled more ++ closing) e h).1)
 
-  pub read_next : (text rest part behind : List ℕ) (lines : List Line) (line : Line) → IsRead text rest lines → parts rest ≡ part ∷ parts behind → IsKnown names line
+  pub read_next : (text rest part behind : List ℕ) (lines : List BodyLine) (line : BodyLine) → IsRead text rest lines → parts rest ≡ part ∷ parts behind → IsKnown names line
       → trimmed part ≡ spelled (plain names line) → IsRead text behind (lines ++ line ∷ [])
   read_next text rest part behind lines line read e known t = record {
     known = All-push (IsKnown names) lines line read.known known;
@@ -132,7 +132,7 @@ module _ (names : List (List ℕ)) where
         next_kept part rest behind (plain names line) before.0 e t before.1 before.2;
   }
 
-  pub read_end : (text rest part behind : List ℕ) (lines : List Line) → IsRead text rest lines → parts rest ≡ part ∷ parts behind → trimmed part ≡ codes "}" → behind ≡ []
+  pub read_end : (text rest part behind : List ℕ) (lines : List BodyLine) → IsRead text rest lines → parts rest ≡ part ∷ parts behind → trimmed part ≡ codes "}" → behind ≡ []
       → IsCutInto text (map spelled (map (plain names) lines) ++ closing)
   read_end text rest part behind lines read e t none =
       let P : List ℕ → Type 0 = λ behind. IsCutInto behind [] in
@@ -140,25 +140,25 @@ module _ (names : List (List ℕ)) where
       let here : IsCutInto rest closing = rw t at (cut_onto rest part behind [] e empty) in
       read.onto closing here
 
-  end_none : (part rest behind : List ℕ) (more : List source.Line) → parts rest ≡ part ∷ parts behind → trimmed part ≡ codes "}" → IsCutInto rest (map spelled more ++ closing) → behind ≡ []
+  end_none : (part rest behind : List ℕ) (more : List source.SourceLine) → parts rest ≡ part ∷ parts behind → trimmed part ≡ codes "}" → IsCutInto rest (map spelled more ++ closing) → behind ≡ []
   end_none part rest behind [] e t h = cut_end behind (cut_kept rest part behind (codes "}") [] e h).1
   end_none part rest behind (first ∷ more) e t h =
       absurd (not_closing first (sym (cut_kept rest part behind (spelled first) (map spelled more ++ closing) e h).0 ∙ t))
 
   -- what follows the closing line rules out each body
-  pub refuse_end : (text rest part behind : List ℕ) (lines : List Line) → IsRead text rest lines → parts rest ≡ part ∷ parts behind → trimmed part ≡ codes "}" → behind ≢ []
-      → (body : List source.Line) → All (IsLine names) body → IsCutInto text (map spelled body ++ closing) → ⊥
+  pub refuse_end : (text rest part behind : List ℕ) (lines : List BodyLine) → IsRead text rest lines → parts rest ≡ part ∷ parts behind → trimmed part ≡ codes "}" → behind ≢ []
+      → (body : List source.SourceLine) → All (IsSourceLine names) body → IsCutInto text (map spelled body ++ closing) → ⊥
   refuse_end text rest part behind lines read e t some body each h =
       let before = read.kept body each h in some (end_none part rest behind before.0 e t before.2)
 
-  line_none : (part rest behind : List ℕ) (more : List source.Line) → parts rest ≡ part ∷ parts behind → trimmed part ≢ codes "}" → ((line : source.Line) → IsLine names line → trimmed part ≢ spelled line)
-      → All (IsLine names) more → IsCutInto rest (map spelled more ++ closing) → ⊥
+  line_none : (part rest behind : List ℕ) (more : List source.SourceLine) → parts rest ≡ part ∷ parts behind → trimmed part ≢ codes "}" → ((line : source.SourceLine) → IsSourceLine names line → trimmed part ≢ spelled line)
+      → All (IsSourceLine names) more → IsCutInto rest (map spelled more ++ closing) → ⊥
   line_none part rest behind [] e t not_line each h = t (cut_kept rest part behind (codes "}") [] e h).0
   line_none part rest behind (first ∷ more) e t not_line each h =
-      not_line first (All-head (IsLine names) first more each) (cut_kept rest part behind (spelled first) (map spelled more ++ closing) e h).0
+      not_line first (All-head (IsSourceLine names) first more each) (cut_kept rest part behind (spelled first) (map spelled more ++ closing) e h).0
 
   -- so does a line that is none
-  pub refuse_line : (text rest part behind : List ℕ) (lines : List Line) → IsRead text rest lines → parts rest ≡ part ∷ parts behind → trimmed part ≢ codes "}"
-      → ((line : source.Line) → IsLine names line → trimmed part ≢ spelled line) → (body : List source.Line) → All (IsLine names) body → IsCutInto text (map spelled body ++ closing) → ⊥
+  pub refuse_line : (text rest part behind : List ℕ) (lines : List BodyLine) → IsRead text rest lines → parts rest ≡ part ∷ parts behind → trimmed part ≢ codes "}"
+      → ((line : source.SourceLine) → IsSourceLine names line → trimmed part ≢ spelled line) → (body : List source.SourceLine) → All (IsSourceLine names) body → IsCutInto text (map spelled body ++ closing) → ⊥
   refuse_line text rest part behind lines read e t not_line body each h =
       let before = read.kept body each h in line_none part rest behind before.0 e t not_line before.1 before.2

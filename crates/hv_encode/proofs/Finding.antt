@@ -1,31 +1,29 @@
 -- What is due because of a later read is due because of the whole call.
 use Rattle.std.specs.Prelude.{Result, Ok, Err, IfOk}
-use Rattle.std.proofs.Common.{◌≡◌, ℕ, ◌≤◌, Bool, List, Option, sym, ◌∙◌, arith, refl}
+use Rattle.std.proofs.Common.{◌≡◌, ℕ, ◌≤◌, List, sym, ◌∙◌, ap, arith}
 use Rattle.hv_outside.specs.Count.{Rose}
+use Rattle.hv_outside.specs.Files.{FileState, Keeps}
 use Rattle.hv_model.specs.Model.{IsModelOf}
 use Rattle.hv_model.specs.Rule.{Features}
-use Rattle.hv_plain.specs.Source.{Line, IsSmallSource}
-use Rattle.hv_encode.specs.declared.answer.Answer.{Answer}
-use Rattle.hv_encode.specs.declared.answer.Answer.TheVariants.{Encoded, LeftOut, BadWords, CannotRead, NoFile, TooBig, BadModel}
-use Rattle.hv_encode.specs.Due.{Reads, Command, IsFile, IsInput, IsDueTo, reads}
-use Rattle.hv_encode.specs.Found.{IsLeftOutOf, IsMadeOf}
+use Rattle.hv_plain.specs.Source.{SourceLine, IsSmallSource}
+use Rattle.hv_encode.specs.declared.cli.answer.Answer.{Answer}
+use Rattle.hv_encode.specs.declared.cli.answer.Answer.TheVariants.{Encoded, LeftOut, BadWords, CannotRead, NoFile, TooBig, BadModel}
+use Rattle.hv_encode.specs.Due.{Reads, Command, IsFile, IsInput, IsDueTo, IsReadBefore, reads}
+use Rattle.hv_encode.specs.declared.cli.command.Role.{Role}
+use Rattle.hv_encode.specs.declared.cli.command.Role.TheVariants.{Model, Main}
+use Rattle.hv_encode.specs.working.Found.{IsLeftOutOf, IsMadeOf}
 
 -- the later reads end where the whole ends, and began after it
 pub record IsLater (whole later : Reads) : Type 0 where
-  pub told : later.told ≡ whole.told
-  pub held : (name : List ℕ) → later.held name ≡ whole.held name
-  pub faults : whole.faults_before ≤ later.faults_before
-  pub faults_now : later.faults_now ≡ whole.faults_now
-  pub absences : whole.absences_before ≤ later.absences_before
-  pub absences_now : later.absences_now ≡ whole.absences_now
-  pub failed_name : later.failed_name ≡ whole.failed_name
+  pub keeps : Keeps whole.before later.before
+  pub now : later.now ≡ whole.now
 
 Rose-earlier : (a b c d : ℕ) → a ≤ b → c ≡ d → Rose b c → Rose a d
 Rose-earlier a b c d h e rose = omega arith
 
 pub IsFile-whole : (whole later : Reads) → IsLater whole later → (name bytes : List ℕ) → IsFile later name bytes → IsFile whole name bytes
 IsFile-whole whole later l name bytes file = record {
-  held = λ told. sym (l.held name) ∙ file.held (l.told ∙ told);
+  held = λ told. sym (l.keeps.held name) ∙ file.held (l.keeps.told ∙ told);
   small = file.small;
 }
 
@@ -37,6 +35,10 @@ IsInput-whole whole later l command model source input = record {
   accepted = input.accepted;
   main = IsFile-whole whole later l command.main source input.main;
 }
+
+pub IsReadBefore-whole : (whole later : Reads) → IsLater whole later → (command : Command) (role : Role) → IsReadBefore later command role → IsReadBefore whole command role
+IsReadBefore-whole whole later l command Model read = tt
+IsReadBefore-whole whole later l command Main read = (read.0, IsFile-whole whole later l command.model read.0 read.1)
 
 pub IsDueTo-whole : (whole later : Reads) → IsLater whole later → (command : Command) (answer : Answer) → IsDueTo later command answer → IsDueTo whole command answer
 IsDueTo-whole whole later l command (Encoded text) due = record {
@@ -61,21 +63,24 @@ IsDueTo-whole whole later l command BadWords due = due
 IsDueTo-whole whole later l command (CannotRead name) due = record {
   role = due.role;
   asked = due.asked;
-  rose = Rose-earlier _ _ _ _ l.faults l.faults_now due.rose;
-  latest = sym l.failed_name ∙ due.latest;
+  read_before = IsReadBefore-whole whole later l command due.role due.read_before;
+  rose = Rose-earlier _ _ _ _ l.keeps.faults (ap (λ (s : FileState). s.faults) l.now) due.rose;
+  latest = sym (ap (λ (s : FileState). s.failed_name) l.now) ∙ due.latest;
 }
 IsDueTo-whole whole later l command (NoFile name) due = record {
   role = due.role;
   asked = due.asked;
-  rose = Rose-earlier _ _ _ _ l.absences l.absences_now due.rose;
-  held = λ told. sym (l.held name) ∙ due.held (l.told ∙ told);
+  read_before = IsReadBefore-whole whole later l command due.role due.read_before;
+  rose = Rose-earlier _ _ _ _ l.keeps.absences (ap (λ (s : FileState). s.absences) l.now) due.rose;
+  held = λ told. sym (l.keeps.held name) ∙ due.held (l.keeps.told ∙ told);
 }
 IsDueTo-whole whole later l command (TooBig name size total) due = record {
   role = due.role;
   asked = due.asked;
+  read_before = IsReadBefore-whole whole later l command due.role due.read_before;
   total_is = due.total_is;
   beyond = due.beyond;
-  held = λ told. let found = due.held (l.told ∙ told) in (found.0, sym (l.held name) ∙ found.1, found.2);
+  held = λ told. let found = due.held (l.keeps.told ∙ told) in (found.0, sym (l.keeps.held name) ∙ found.1, found.2);
 }
 IsDueTo-whole whole later l command (BadModel found) due = record {
   bytes = due.bytes;
@@ -111,25 +116,15 @@ IsDueTo-made reads command model_file source (NoFile name) is_model main made = 
 IsDueTo-made reads command model_file source (TooBig name size total) is_model main made = absurd made
 IsDueTo-made reads command model_file source (BadModel found) is_model main made = record { bytes = model_file; model_file = is_model; source = source; main = main; refused = made }
 
-pub IsLater-reads : {F : Type 0} (told : F → Bool) (held : F → List ℕ → Option (List ℕ)) (faults absences : F → ℕ) (failed_name : F → Option (List ℕ)) (old mid new : F)
-    → told mid ≡ told old → ((name : List ℕ) → held mid name ≡ held old name) → faults old ≤ faults mid → absences old ≤ absences mid
-    → IsLater (reads told held faults absences failed_name old new) (reads told held faults absences failed_name mid new)
-IsLater-reads told held faults absences failed_name old mid new t h f a = record {
-  told = t;
-  held = h;
-  faults = f;
-  faults_now = refl;
-  absences = a;
-  absences_now = refl;
-  failed_name = refl;
+-- a file that was read earlier is one before a later read
+pub IsFile-later : (old mid new : FileState) → Keeps old mid → (name bytes : List ℕ) → IsFile (reads old mid) name bytes → IsFile (reads mid new) name bytes
+IsFile-later old mid new keeps name bytes file = record {
+  held = λ told. keeps.held name ∙ file.held (sym keeps.told ∙ told);
+  small = file.small;
 }
 
-pub IsFile-reads : {F : Type 0} (told : F → Bool) (held : F → List ℕ → Option (List ℕ)) (faults absences : F → ℕ) (failed_name : F → Option (List ℕ)) (old mid new : F) (name bytes : List ℕ)
-    → IsFile (reads told held faults absences failed_name old mid) name bytes → IsFile (reads told held faults absences failed_name old new) name bytes
-IsFile-reads told held faults absences failed_name old mid new name bytes file = record { held = file.held; small = file.small }
-
--- an answer for a main file that is no small source is one for the bytes of the files
-pub left_out_made : {E : Type 0} (result : Result Answer E) (model_file source main : List ℕ) (m : Features) → IsModelOf model_file m → ((body : List Line) → IsSmallSource m.names source body → ⊥)
+-- an answer for a main file that isn't a small source is one for the bytes of the files
+pub left_out_made : {E : Type 0} (result : Result Answer E) (model_file source main : List ℕ) (m : Features) → IsModelOf model_file m → ((body : List SourceLine) → IsSmallSource m.names source body → ⊥)
     → IfOk result (IsLeftOutOf m main) → IfOk result (IsMadeOf model_file source main)
 left_out_made (Err e) model_file source main m accepted refused out = tt
 left_out_made (Ok answer) model_file source main m accepted refused out = at answer out

@@ -2,11 +2,11 @@ mod Bodies
 mod Encoded
 pub mod EndsLemmas
 pub mod Finding
+mod GroupsLemmas
+mod LiftingLemmas
 mod Lists
 mod Messages
-mod NestedLines
-mod Popped
-mod Presences
+mod OneEach
 mod Printed
 mod Product
 mod Pruning

@@ -4,7 +4,7 @@ use Rattle.std.specs.Borrow.{Bor}
 use Rattle.std.specs.List.{flat_map}
 use Rattle.std.specs.Prelude.{Result, Ok, Err, IfOk}
 use Rattle.hv_encode.specs.Answer.{message_of}
-use Rattle.hv_encode.specs.declared.answer.Answer.TheVariants.{LeftOut}
+use Rattle.hv_encode.specs.declared.cli.answer.Answer.TheVariants.{LeftOut}
 
 five : (a b c d e : List ℕ) → a ++ (b ++ (c ++ (d ++ e))) ≡ a ++ b ++ c ++ d ++ e
 five a b c d e = simp append_assoc

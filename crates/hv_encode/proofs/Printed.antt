@@ -1,17 +1,20 @@
 -- The text of each part of a program, as it is written.
-use Rattle.std.proofs.Common.{◌≡◌, ℕ, ◌+◌, ◌<◌, ◌≤◌, ◌%◌, ◌^◌, Bool, true, false, ◌&&◌, ◌||◌, ◌==◌, List, [], ◌∷◌, ◌++◌, reverse, cond, refl, sym, ◌∙◌, ap, arith, length, get_or, take, codes, decimal, Result, Ok, Err, OnOk, Some, slice_get, zero, suc}
-use Rattle.std.specs.List.{flat_map, list_all, list_any}
+use Rattle.std.proofs.Common.{◌≡◌, ℕ, ◌+◌, ◌<◌, ◌≤◌, ◌%◌, ◌^◌, Bool, true, false, ◌&&◌, ◌||◌, ◌==◌, List, [], ◌∷◌, ◌++◌, map, cond, refl, sym, ◌∙◌, ap, subst, arith, length, get_or, take, codes, decimal, Result, Ok, Err, OnOk, Some, slice_get, zero, suc}
+use Rattle.std.specs.List.{flat_map, list_all}
 use Rattle.std.proofs.lemmas.Bool.Decides.{nat_tests}
 use Rattle.std.proofs.lemmas.Fmt.{decimal_by_steps}
 use Rattle.std.proofs.lemmas.Grind.{flat_map-append}
 use Rattle.std.proofs.lemmas.List.{append_assoc, append-nil, take_more, take_all, map-append}
-use Rattle.hv_model.specs.Name.{is_digit}
+use Rattle.hv_base.specs.Ascii.{is_digit}
 use Rattle.hv_plain.specs.Program.{Literal, Statement, shown, shown_token, ends_a_line, literal_tokens, test_tokens, call_tokens, statement_tokens, declaration_tokens, head_tokens, program_tokens}
 use Rattle.hv_plain.specs.Run.{variable_of, variables_of}
-use Rattle.hv_encode.specs.declared.lift.Group.{Group}
-use Rattle.hv_encode.specs.Lift.{IsBegun, is_tested, opening_tokens, part_of_test, test_in, has_literal, opened}
-use Rattle.hv_encode.specs.Presence.{program_of}
-use Rattle.hv_encode.proofs.Lists.{list_all-append, and_both, and_parts, reverse-front, list_any-reverse}
+use Rattle.hv_encode.specs.working.Lift.{IsBegun, is_tested, literal_of, opening_tokens, statements_of, test_text}
+use Rattle.hv_encode.specs.declared.small.program.Block.{Block}
+use Rattle.hv_encode.specs.declared.small.program.OptionTest.{OptionTest}
+use Rattle.hv_encode.specs.working.Lift.{program_with}
+use Rattle.hv_encode.proofs.Lists.{list_all-append}
+use Rattle.std.proofs.lemmas.Result.{on_ok_weaker}
+use Rattle.hv_base.proofs.Booleans.{and_both, and_parts}
 
 -- three writes in a row are one
 pub wrote_three : {T E : Type 0} (r : Result T E) (t0 t1 t2 t3 a b c x : List ℕ) → t1 ≡ t0 ++ a → t2 ≡ t1 ++ b → OnOk r (t3 ≡ t2 ++ c) → a ++ (b ++ c) ≡ x → OnOk r (t3 ≡ t0 ++ x)
@@ -85,32 +88,56 @@ begun_more before test literal t0 t1 t2 tested begun p q = record {
   is_told = sym (tested_more test literal);
 }
 
-statement_text : (test : List Literal) (byte : ℕ) → shown (opening_tokens test) ++ (cond (is_tested test) (codes ") ") [] ++ shown (call_tokens byte)) ≡ shown (statement_tokens (record { test = test; byte = byte }))
+-- a test with its parentheses, after what is written of it
+pub test_end : (before : List ℕ) (test : List Literal) (t0 t1 closed : List ℕ) (tested : Bool) → IsBegun before test t0 tested
+    → closed ≡ cond tested (codes ") ") [] → t1 ≡ t0 ++ closed → t1 ≡ before ++ test_text test
+test_end before test t0 t1 closed tested begun is p =
+    p ∙ ap (λ t. t0 ++ t) is ∙ ap (λ t. t ++ cond tested (codes ") ") []) begun.is_written
+    ∙ append_assoc before (shown (opening_tokens test)) (cond tested (codes ") ") [])
+    ∙ ap (λ told. before ++ (shown (opening_tokens test) ++ cond told (codes ") ") [])) begun.is_told
+
+-- a test and a call are a statement
+statement_text : (test : List Literal) (byte : ℕ) → test_text test ++ shown (call_tokens byte) ≡ shown (statement_tokens (record { test = test; byte = byte }))
 statement_text [] byte = refl
-statement_text (first ∷ test) byte = ap (λ t. codes "if ( " ++ t) (sym (shown-append (test_tokens (first ∷ test)) (codes ")" ∷ call_tokens byte)))
-
-pub statement_written : {T E : Type 0} (r : Result T E) (before : List ℕ) (test : List Literal) (byte : ℕ) (t0 t1 t2 : List ℕ) (tested : Bool) → IsBegun before test t0 tested
-    → t1 ≡ t0 ++ cond tested (codes ") ") [] → OnOk r (t2 ≡ t1 ++ shown (call_tokens byte)) → OnOk r (t2 ≡ before ++ shown (flat_map statement_tokens (record { test = test; byte = byte } ∷ [])))
-statement_written (Err e) before test byte t0 t1 t2 tested begun p q = tt
-statement_written (Ok v) before test byte t0 t1 t2 tested begun p q =
-    let C = cond tested (codes ") ") [] in
-    let S = shown (call_tokens byte) in
-    q ∙ ap (λ t. t ++ S) (p ∙ ap (λ t. t ++ C) begun.is_written) ∙ append_assoc (before ++ shown (opening_tokens test)) C S ∙ append_assoc before (shown (opening_tokens test)) (C ++ S)
-    ∙ ap (λ told. before ++ (shown (opening_tokens test) ++ (cond told (codes ") ") [] ++ S))) begun.is_told
-    ∙ ap (λ t. before ++ t) (statement_text test byte ∙ ap shown (sym (append-nil (statement_tokens (record { test = test; byte = byte })))))
-
-pub begun_part : (before : List ℕ) (test : List Literal) (literal : Literal) (text : List ℕ) (repeated : Bool) → repeated ≡ false
-    → IsBegun before (test ++ literal ∷ []) text true → IsBegun before (test ++ cond repeated [] (literal ∷ [])) text true
-begun_part before test literal text repeated e begun = rw e begun
+statement_text (first ∷ test) byte =
+    append_assoc (shown (opening_tokens (first ∷ test))) (codes ") ") (shown (call_tokens byte))
+    ∙ ap (λ t. codes "if ( " ++ t) (sym (shown-append (test_tokens (first ∷ test)) (codes ")" ∷ call_tokens byte)))
 
 pub name_is : (names : List (List ℕ)) (option : ℕ) (name : List ℕ) → slice_get names option ≡ Some name → name ≡ get_or names option []
 name_is [] option name e = cc
 name_is (first ∷ names) zero name e = cc
 name_is (first ∷ names) (suc option) name e = name_is names option name e
 
--- the text that statements are written as
+-- the statement with this test that writes a byte
+abbrev pub statement_with : List Literal → ℕ → Statement
+statement_with test byte = record { test = test; byte = byte }
+
+-- the text of statements
 abbrev pub statements_text : List Statement → List ℕ
 statements_text statements = shown (flat_map statement_tokens statements)
+
+pub statements_text-append : (first more : List Statement) → statements_text (first ++ more) ≡ statements_text first ++ statements_text more
+statements_text-append first more =
+    ap shown (flat_map-append statement_tokens first more)
+    ∙ shown-append (flat_map statement_tokens first) (flat_map statement_tokens more)
+
+-- one more statement of a block
+pub statement_next : (test : List Literal) (bytes : List ℕ) (i : ℕ) (before t0 t1 t2 own : List ℕ) → i < length bytes → own ≡ [] ++ test_text test
+    → t0 ≡ before ++ statements_text (map (statement_with test) (take i bytes)) → t1 ≡ t0 ++ own → t2 ≡ t1 ++ shown (call_tokens (get_or bytes i 0))
+    → t2 ≡ before ++ statements_text (map (statement_with test) (take (i + 1) bytes))
+statement_next test bytes i before t0 t1 t2 own within is p q r =
+    let old = statements_text (map (statement_with test) (take i bytes)) in
+    let one = statement_with test (get_or bytes i 0) in
+    let call = shown (call_tokens (get_or bytes i 0)) in
+    let text : own ++ call ≡ statements_text (one ∷ []) =
+    ap (λ t. t ++ call) is ∙ statement_text test (get_or bytes i 0) ∙ ap shown (sym (append-nil (statement_tokens one))) in
+    let next : statements_text (map (statement_with test) (take (i + 1) bytes)) ≡ old ++ statements_text (one ∷ []) =
+    ap (λ (some : List ℕ). statements_text (map (statement_with test) some)) (take_more bytes i 0 within)
+    ∙ ap statements_text (map-append (statement_with test) (take i bytes) (get_or bytes i 0 ∷ []))
+    ∙ statements_text-append (map (statement_with test) (take i bytes)) (one ∷ []) in
+    r ∙ ap (λ t. t ++ call) (q ∙ ap (λ t. t ++ own) p)
+    ∙ append_assoc (before ++ old) own call ∙ append_assoc before old (own ++ call)
+    ∙ ap (λ t. before ++ t) (ap (λ t. old ++ t) text ∙ sym next)
 
 pub declared_next : (names : List (List ℕ)) (i : ℕ) (name before t0 t1 : List ℕ) → i < length names → name ≡ get_or names i []
     → t0 ≡ before ++ shown (flat_map declaration_tokens (variables_of (take i names))) → t1 ≡ t0 ++ shown (declaration_tokens (variable_of name))
@@ -125,36 +152,41 @@ declared_next names i name before t0 t1 within is p q =
     q ∙ ap (λ t. t ++ shown (declaration_tokens (variable_of name))) p ∙ ap (λ n. (before ++ shown old) ++ shown (declaration_tokens (variable_of n))) is
     ∙ append_assoc before (shown old) (shown new) ∙ ap (λ t. before ++ t) (sym (shown-append old new) ∙ ap shown (sym next))
 
-pub opened_is : (groups : List Group) (option : ℕ) (negated repeated : Bool) → repeated ≡ list_any (has_literal option negated) groups
-    → ◌≡◌ {A = Group} (record { option = option; negated = negated; repeated = repeated }) (opened (reverse groups) option negated)
-opened_is groups option negated repeated e =
-    let G : Bool → Group = λ told. record { option = option; negated = negated; repeated = told } in
-    ap G (e ∙ sym (list_any-reverse (has_literal option negated) groups))
-
 module _ (names : List (List ℕ)) where
-  test-append : (groups : List Group) (group : Group) → test_in names (groups ++ group ∷ []) ≡ part_of_test names group ++ test_in names groups
-  test-append [] group = sym (append-nil (part_of_test names group))
-  test-append (first ∷ groups) group =
-      ap (λ t. t ++ part_of_test names first) (test-append groups group) ∙ append_assoc (part_of_test names group) (test_in names groups) (part_of_test names first)
-
-  -- the parts of a test, from the outermost group on
-  pub test-reverse : (groups : List Group) → test_in names (reverse groups) ≡ flat_map (part_of_test names) groups
-  test-reverse [] = refl
-  test-reverse (group ∷ groups) =
-      ap (test_in names) (reverse-front group groups) ∙ test-append (reverse groups) group ∙ ap (λ t. part_of_test names group ++ t) (test-reverse groups)
-
-  pub statement-all : {T E : Type 0} (r : Result T E) (before text : List ℕ) (groups : List Group) (i byte : ℕ) → length groups ≤ i
-      → OnOk r (text ≡ before ++ statements_text (record { test = flat_map (part_of_test names) (take i groups); byte = byte } ∷ []))
-      → OnOk r (text ≡ before ++ statements_text (record { test = test_in names (reverse groups); byte = byte } ∷ []))
-  statement-all (Err e) before text groups i byte past h = tt
-  statement-all (Ok v) before text groups i byte past h =
-      let S : List Literal → Statement = λ test. record { test = test; byte = byte } in
-      h ∙ ap (λ test. before ++ statements_text (S test ∷ [])) (ap (flat_map (part_of_test names)) (take_all i groups past) ∙ sym (test-reverse groups))
-
   -- the parts of the printed metaproduct, one behind the other
+  -- one more test
+  pub begun_next : (before : List ℕ) (tests : List OptionTest) (i : ℕ) (d : OptionTest) (t0 t1 t2 : List ℕ) (tested : Bool) → i < length tests
+      → IsBegun before (map (literal_of names) (take i tests)) t0 tested → t1 ≡ t0 ++ cond tested (codes "&& ") (codes "if ( ")
+      → t2 ≡ t1 ++ shown (literal_tokens (literal_of names (get_or tests i d))) → IsBegun before (map (literal_of names) (take (i + 1) tests)) t2 true
+  begun_next before tests i d t0 t1 t2 tested within begun p q =
+      let next : map (literal_of names) (take (i + 1) tests) ≡ map (literal_of names) (take i tests) ++ literal_of names (get_or tests i d) ∷ [] =
+      ap (map (literal_of names)) (take_more tests i d within) ∙ map-append (literal_of names) (take i tests) (get_or tests i d ∷ []) in
+      let P : List Literal → Type 0 = λ test. IsBegun before test t2 true in
+      subst P (sym next) (begun_more before (map (literal_of names) (take i tests)) (literal_of names (get_or tests i d)) t0 t1 t2 tested begun p q)
+
+  pub test_all : {T E : Type 0} (r : Result T E) (before : List ℕ) (tests : List OptionTest) (i : ℕ) (t0 t1 closed : List ℕ) (tested : Bool) → length tests ≤ i
+      → IsBegun before (map (literal_of names) (take i tests)) t0 tested → closed ≡ cond tested (codes ") ") [] → OnOk r (t1 ≡ t0 ++ closed)
+      → OnOk r (t1 ≡ before ++ test_text (map (literal_of names) tests))
+  test_all r before tests i t0 t1 closed tested past begun is p =
+      let P : List OptionTest → Type 0 = λ all. IsBegun before (map (literal_of names) all) t0 tested in
+      on_ok_weaker r (test_end before (map (literal_of names) tests) t0 t1 closed tested (subst P (take_all i tests past) begun) is) p
+
+  -- one more block
+  pub block_next : (blocks : List Block) (i : ℕ) (d : Block) (before t0 t1 : List ℕ) → i < length blocks
+      → t0 ≡ before ++ statements_text (flat_map (statements_of names) (take i blocks)) → t1 ≡ t0 ++ statements_text (statements_of names (get_or blocks i d))
+      → t1 ≡ before ++ statements_text (flat_map (statements_of names) (take (i + 1) blocks))
+  block_next blocks i d before t0 t1 within p q =
+      let old = flat_map (statements_of names) (take i blocks) in
+      let new = statements_of names (get_or blocks i d) in
+      let next : flat_map (statements_of names) (take (i + 1) blocks) ≡ old ++ new =
+      ap (flat_map (statements_of names)) (take_more blocks i d within)
+      ∙ flat_map-append (statements_of names) (take i blocks) (get_or blocks i d ∷ []) ∙ ap (λ t. old ++ t) (append-nil new) in
+      q ∙ ap (λ t. t ++ statements_text new) p ∙ append_assoc before (statements_text old) (statements_text new)
+      ∙ ap (λ t. before ++ t) (sym (statements_text-append old new) ∙ ap statements_text (sym next))
+
   pub product_text : (statements : List Statement) (t1 t2 t3 t4 : List ℕ) → t1 ≡ [] ++ shown (flat_map declaration_tokens (variables_of names))
       → t2 ≡ t1 ++ codes "int putchar ( int ) ;\nint main ( void ) {\n" → t3 ≡ t2 ++ statements_text statements → t4 ≡ t3 ++ codes "}\n"
-      → t4 ≡ shown (program_tokens (program_of names statements))
+      → t4 ≡ shown (program_tokens (program_with names statements))
   product_text statements t1 t2 t3 t4 p q r s =
       let D = flat_map declaration_tokens (variables_of names) in
       let S = flat_map statement_tokens statements in

@@ -4,7 +4,7 @@ use Rattle.std.specs.List.{AllByRecursion, list_all}
 use Rattle.hv_model.specs.Rule.{Features, IsValid}
 use Rattle.hv_plain.specs.Program.{Statement}
 use Rattle.hv_plain.specs.Run.{IsReached, literal_holds, output_of, start}
-use Rattle.hv_encode.specs.Presence.{Prunes, none, keep, leave}
+use Rattle.hv_encode.specs.working.Presence.{Prunes, none, keep, leave}
 
 module _ (model : Features) where
   pub Prunes-append : {all kept more others : List Statement} → Prunes model all kept → Prunes model more others → Prunes model (all ++ more) (kept ++ others)

@@ -10,7 +10,7 @@ use Rattle.std.proofs.lemmas.List.{append_cancel_left}
 use Rattle.std.proofs.lemmas.List.Quantifiers.{position-Some}
 use Rattle.std.proofs.lemmas.List.Sums.{fails_before_first}
 use Rattle.hv_plain.specs.Source.{put, spelled}
-use Rattle.hv_encode.specs.Lines.{name_at, IsOption}
+use Rattle.hv_encode.specs.working.Lines.{name_at, IsOption}
 
 -- no name behind a directive that the text does not begin with
 pub no_directive : (names : List (List ℕ)) (directive text : List ℕ) (r : Option ℕ) → ((rest : List ℕ) → text ≢ directive ++ rest)

@@ -2,14 +2,14 @@
 use Rattle.std.proofs.Common.{◌≡◌, ℕ, Bool, true, false, List, [], ◌∷◌, ◌++◌, map, refl, sym, ◌∙◌, ap, subst, codes, Some, None, Option, IfSome, IfNone, is_some, not, Contains}
 use Rattle.std.specs.List.{All, position}
 use Rattle.std.specs.Str.{bytes_eq}
-use Rattle.std.proofs.lemmas.List.{append_cancel_right}
+use Rattle.std.proofs.lemmas.List.{append_cancel_left, append_cancel_right}
 use Rattle.std.proofs.lemmas.List.Elements.{All-map, All-weaker, Contains-get_or, recursion_from_All}
 use Rattle.hv_plain.specs.Bytes.{trimmed}
 use Rattle.hv_plain.specs.Source as source
-use Rattle.hv_plain.specs.Source.{IsLine, IsSmallSource, spelled, is_nested}
-use Rattle.hv_encode.specs.declared.line.Line.{Line}
-use Rattle.hv_encode.specs.declared.line.Line.TheVariants.{Put, IfDefined, IfNotDefined, Else, EndIf}
-use Rattle.hv_encode.specs.Lines.{IsKnown, IsCutInto, IsFree, plain}
+use Rattle.hv_plain.specs.Source.{IsSourceLine, IsSmallSource, spelled, is_nested}
+use Rattle.hv_encode.specs.declared.small.line.BodyLine.{BodyLine}
+use Rattle.hv_encode.specs.declared.small.line.BodyLine.TheVariants.{Put, IfDefined, IfNotDefined, Else, EndIf}
+use Rattle.hv_encode.specs.working.Lines.{IsKnown, IsCutInto, IsFree, plain}
 use Rattle.hv_encode.proofs.Bodies.{closing}
 use Rattle.hv_encode.proofs.Reading.{not_found, found}
 use Rattle.hv_encode.proofs.Sources.{map_spelled-injective}
@@ -44,6 +44,10 @@ no_place names name (Some option) none e told h =
     let P : List ℕ → Type 0 = λ n. Contains names n in
     absurd (h (subst P (sym is.1) (Contains-get_or names option [] is.0.within)))
 
+pub not_some : {X : Type 0} (o : Option X) → ((x : X) → o ≡ Some x → ⊥) → is_some o ≡ false
+not_some None h = refl
+not_some (Some x) h = absurd (h x refl)
+
 pub some_at : {T : Type 0} (r : Option T) (x : T) (P : T → Type 0) → r ≡ Some x → IfSome r P → P x
 some_at {T} r x P e h = let Q : Option T → Type 0 = λ o. IfSome o P in subst Q e h
 
@@ -52,20 +56,20 @@ cut_unique text one other p q =
     sym p.is_trimmed ∙ ap (map trimmed) (append_cancel_right p.texts q.texts ([] ∷ []) (sym p.cut ∙ q.cut)) ∙ q.is_trimmed
 
 module _ (names : List (List ℕ)) where
-  pub known_line : (line : Line) → IsKnown names line → IsLine names (plain names line)
+  pub known_line : (line : BodyLine) → IsKnown names line → IsSourceLine names (plain names line)
   known_line (Put byte) h = h
   known_line (IfDefined option) h = Contains-get_or names option [] h.within
   known_line (IfNotDefined option) h = Contains-get_or names option [] h.within
   known_line Else h = tt
   known_line EndIf h = tt
 
-  pub known_lines : (lines : List Line) → All (IsKnown names) lines → All (IsLine names) (map (plain names) lines)
-  known_lines lines h = All-map (IsLine names) (plain names) lines (All-weaker (IsKnown names) (λ line. IsLine names (plain names line)) known_line lines h)
+  pub known_lines : (lines : List BodyLine) → All (IsKnown names) lines → All (IsSourceLine names) (map (plain names) lines)
+  known_lines lines h = All-map (IsSourceLine names) (plain names) lines (All-weaker (IsKnown names) (λ line. IsSourceLine names (plain names line)) known_line lines h)
 
-  pub small_cut : (text : List ℕ) (body : List source.Line) → IsSmallSource names text body → IsCutInto text (head_line ∷ main_line ∷ (map spelled body ++ closing))
+  pub small_cut : (text : List ℕ) (body : List source.SourceLine) → IsSmallSource names text body → IsCutInto text (head_line ∷ main_line ∷ (map spelled body ++ closing))
   small_cut text body h = record { texts = h.texts; cut = h.cut; is_trimmed = h.lines }
 
-  pub small_is : (text : List ℕ) (lines : List Line) → IsFree names → All (IsKnown names) lines → IsCutInto text (head_line ∷ main_line ∷ (map spelled (map (plain names) lines) ++ closing))
+  pub small_is : (text : List ℕ) (lines : List BodyLine) → IsFree names → All (IsKnown names) lines → IsCutInto text (head_line ∷ main_line ∷ (map spelled (map (plain names) lines) ++ closing))
       → is_nested [] (map (plain names) lines) ≡ true → IsSmallSource names text (map (plain names) lines)
   small_is text lines free known cut nested = record {
     texts = cut.texts;
@@ -77,12 +81,14 @@ module _ (names : List (List ℕ)) where
     putchar_is_free = free.putchar;
   }
 
-  pub small_none : (text rest : List ℕ) (lines : List Line) → All (IsKnown names) lines → IsCutInto rest (map spelled (map (plain names) lines) ++ closing)
-      → ((tail : List (List ℕ)) → IsCutInto text (head_line ∷ main_line ∷ tail) → IsCutInto rest tail) → is_nested [] (map (plain names) lines) ≡ false
-      → (body : List source.Line) → IsSmallSource names text body → ⊥
-  small_none text rest lines known cut kept not_nested body is =
-      let own = kept (map spelled body ++ closing) (small_cut text body is) in
-      let texts = append_cancel_right (map spelled body) (map spelled (map (plain names) lines)) closing (cut_unique rest (map spelled body ++ closing) (map spelled (map (plain names) lines) ++ closing) own cut) in
-      let same = map_spelled-injective names body (map (plain names) lines) (recursion_from_All (IsLine names) body is.each_line)
-      (recursion_from_All (IsLine names) (map (plain names) lines) (known_lines lines known)) texts in
+  pub small_none : (text : List ℕ) (lines : List BodyLine) → All (IsKnown names) lines → IsCutInto text (head_line ∷ main_line ∷ (map spelled (map (plain names) lines) ++ closing))
+      → is_nested [] (map (plain names) lines) ≡ false → (body : List source.SourceLine) → IsSmallSource names text body → ⊥
+  small_none text lines known cut not_nested body is =
+      let own = map spelled body ++ closing in
+      let read = map spelled (map (plain names) lines) ++ closing in
+      let all = cut_unique text (head_line ∷ main_line ∷ own) (head_line ∷ main_line ∷ read) (small_cut text body is) cut in
+      let ends = append_cancel_left (head_line ∷ main_line ∷ []) own read all in
+      let texts = append_cancel_right (map spelled body) (map spelled (map (plain names) lines)) closing ends in
+      let same = map_spelled-injective names body (map (plain names) lines) (recursion_from_All (IsSourceLine names) body is.each_line)
+      (recursion_from_All (IsSourceLine names) (map (plain names) lines) (known_lines lines known)) texts in
       let wrong : true ≡ false = sym is.nested ∙ ap (is_nested []) same ∙ not_nested in cc

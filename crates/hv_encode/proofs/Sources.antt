@@ -7,8 +7,8 @@ use Rattle.std.proofs.lemmas.List.Elements.{recursion_from_All}
 use Rattle.std.proofs.lemmas.Bool.Decides.{Decides-eqb}
 use Rattle.std.specs.Fmt.{decimal}
 use Rattle.hv_plain.specs.Bytes.{trimmed}
-use Rattle.hv_encode.proofs.Lists.{heads}
-use Rattle.hv_plain.specs.Source.{Line, put, if_defined, if_not_defined, otherwise, end_if, spelled, IsLine, IsSmallSource}
+use Rattle.hv_base.proofs.Lists.{heads}
+use Rattle.hv_plain.specs.Source.{SourceLine, put, if_defined, if_not_defined, otherwise, end_if, spelled, IsSourceLine, IsSmallSource}
 
 -- texts that differ at a place are two
 pub differ_at : {P : Type 0} (k : ℕ) (s t : List ℕ) → s ≡ t → eqb (get_or s k 0) (get_or t k 0) ≡ false → P
@@ -19,7 +19,7 @@ differ_at k s t e apart =
 
 module _ (options : List (List ℕ)) where
   -- two lines of one spelling are one
-  pub spelled-injective : (a b : Line) → IsLine options a → IsLine options b → spelled a ≡ spelled b → a ≡ b
+  pub spelled-injective : (a b : SourceLine) → IsSourceLine options a → IsSourceLine options b → spelled a ≡ spelled b → a ≡ b
   spelled-injective (put m) (put n) p q e =
       ap put (decimal_injective m n (omega arith) (omega arith)
       (append_cancel_left (codes "putchar(") (decimal m) (decimal n) (append_cancel_right (codes "putchar(" ++ decimal m) (codes "putchar(" ++ decimal n) (codes ");") e)))
@@ -48,7 +48,7 @@ module _ (options : List (List ℕ)) where
   spelled-injective end_if otherwise p q e = differ_at 2 (spelled end_if) (spelled otherwise) e refl
   spelled-injective end_if end_if p q e = refl
 
-  pub map_spelled-injective : (xs ys : List Line) → AllByRecursion (IsLine options) xs → AllByRecursion (IsLine options) ys → map spelled xs ≡ map spelled ys → xs ≡ ys
+  pub map_spelled-injective : (xs ys : List SourceLine) → AllByRecursion (IsSourceLine options) xs → AllByRecursion (IsSourceLine options) ys → map spelled xs ≡ map spelled ys → xs ≡ ys
   map_spelled-injective [] [] p q e = refl
   map_spelled-injective [] (y ∷ ys) p q e = cc
   map_spelled-injective (x ∷ xs) [] p q e = cc
@@ -57,10 +57,10 @@ module _ (options : List (List ℕ)) where
       let first = spelled-injective x y p.0 q.0 parts.0 in
       let rest = map_spelled-injective xs ys p.1 q.1 parts.1 in cc
 
-  pub body-unique : (source : List ℕ) (one other : List Line) → IsSmallSource options source one → IsSmallSource options source other → one ≡ other
+  pub body-unique : (source : List ℕ) (one other : List SourceLine) → IsSmallSource options source one → IsSmallSource options source other → one ≡ other
   body-unique source one other p q =
       let texts = append_cancel_right p.texts q.texts ([] ∷ []) (sym p.cut ∙ q.cut) in
       let lines = sym p.lines ∙ ap (map trimmed) texts ∙ q.lines in
       let bodies = append_cancel_left (codes "int putchar(int);" ∷ codes "int main(void) {" ∷ []) (map spelled one ++ codes "}" ∷ []) (map spelled other ++ codes "}" ∷ []) lines in
-      map_spelled-injective one other (recursion_from_All (IsLine options) one p.each_line) (recursion_from_All (IsLine options) other q.each_line)
+      map_spelled-injective one other (recursion_from_All (IsSourceLine options) one p.each_line) (recursion_from_All (IsSourceLine options) other q.each_line)
       (append_cancel_right (map spelled one) (map spelled other) (codes "}" ∷ []) bodies)

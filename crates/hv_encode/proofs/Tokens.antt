@@ -1,17 +1,19 @@
 -- The printed form of tokens, cut at its gaps, gives the tokens.
-use Rattle.std.proofs.Common.{◌≡◌, ℕ, ◌+◌, ◌<◌, ◌^◌, ◌%◌, Bool, true, false, not, ◌||◌, List, [], ◌∷◌, ◌++◌, cond, refl, ◌∙◌, ap, arith, codes}
+use Rattle.std.proofs.Common.{◌≡◌, ℕ, ◌+◌, ◌<◌, ◌^◌, ◌%◌, Bool, true, false, not, ◌||◌, ◌==◌, ◌⊎◌, inl, inr, subst, List, [], ◌∷◌, ◌++◌, cond, refl, ◌∙◌, ap, arith, codes}
 use Rattle.std.specs.List.{list_all, flat_map, slice_split, AllByRecursion}
 use Rattle.std.specs.Fmt.{decimal}
 use Rattle.std.proofs.lemmas.Fmt.{decimal_by_steps}
 use Rattle.std.proofs.lemmas.List.{append_assoc}
 use Rattle.std.proofs.lemmas.List.Elements.{All-from_recursion}
 use Rattle.std.proofs.lemmas.List.Splits.{slice_split_at}
-use Rattle.std.proofs.lemmas.Bool.Decides.{nat_tests}
+use Rattle.std.proofs.lemmas.Bool.Decides.{nat_tests, Decides-eqb}
 use Rattle.hv_plain.specs.Bytes.{is_gap}
-use Rattle.hv_model.specs.Name.{is_letter, is_digit, is_name, is_option_name}
+use Rattle.hv_base.specs.Ascii.{is_nondigit, is_identifier_byte}
+use Rattle.hv_model.specs.Name.{is_name, is_option_name}
 use Rattle.hv_plain.specs.Program.{Literal, Statement, Program, shown, ends_a_line, literal_tokens, test_tokens, call_tokens, guarded_tokens, statement_tokens, declaration_tokens, head_tokens, program_tokens}
 use Rattle.hv_plain.specs.Run.{variable_of}
-use Rattle.hv_encode.proofs.Lists.{list_all-append, and_both, and_parts}
+use Rattle.hv_base.proofs.Booleans.{and_both, and_parts}
+use Rattle.hv_encode.proofs.Lists.{list_all-append}
 
 abbrev pub no_gap : List ℕ → Bool
 no_gap token = list_all (λ byte. not (is_gap byte)) token
@@ -42,8 +44,26 @@ split-shown (token ∷ tokens) h =
     ∙ slice_split_at is_gap token end (shown tokens) (All-from_recursion (λ byte. is_gap byte ≡ false) token (gapless token parts.0)) (end_is_gap (ends_a_line token))
     ∙ ap (λ rest. token ∷ rest) (split-shown tokens parts.1)
 
-letter_is_no_gap : (byte : ℕ) → (is_letter byte || is_digit byte) ≡ true → not (is_gap byte) ≡ true
-letter_is_no_gap byte h = grind (arith, nat_tests)
+three_tests : (a b c : Bool) → ((a || b) || c) ≡ true → (a ≡ true) ⊎ ((b ≡ true) ⊎ (c ≡ true))
+three_tests true b c e = inl refl
+three_tests false true c e = inr (inl refl)
+three_tests false false c e = inr (inr e)
+
+-- a gap is no byte of an identifier
+gap_is_other : (byte : ℕ) → is_identifier_byte byte ≡ true → ((byte == 32) ≡ true) ⊎ (((byte == 9) ≡ true) ⊎ ((byte == 10) ≡ true)) → ⊥
+gap_is_other byte h (inl is) =
+    let wrong : false ≡ true = subst (λ (b : ℕ). is_identifier_byte b ≡ true) ((Decides-eqb byte 32).0 is) h in cc
+gap_is_other byte h (inr (inl is)) =
+    let wrong : false ≡ true = subst (λ (b : ℕ). is_identifier_byte b ≡ true) ((Decides-eqb byte 9).0 is) h in cc
+gap_is_other byte h (inr (inr is)) =
+    let wrong : false ≡ true = subst (λ (b : ℕ). is_identifier_byte b ≡ true) ((Decides-eqb byte 10).0 is) h in cc
+
+letter_by_test : (byte : ℕ) (gap : Bool) → is_gap byte ≡ gap → is_identifier_byte byte ≡ true → not gap ≡ true
+letter_by_test byte true e h = absurd (gap_is_other byte h (three_tests (byte == 32) (byte == 9) (byte == 10) e))
+letter_by_test byte false e h = refl
+
+letter_is_no_gap : (byte : ℕ) → is_identifier_byte byte ≡ true → not (is_gap byte) ≡ true
+letter_is_no_gap byte h = letter_by_test byte (is_gap byte) refl h
 
 digit_is_no_gap : (n : ℕ) → n < 10 → not (is_gap (48 + n)) ≡ true
 digit_is_no_gap n h = grind (arith, nat_tests)
@@ -55,10 +75,10 @@ decimal_has_none n small =
     (λ m front h before. list_all-append (λ byte. not (is_gap byte)) front ((48 + m % 10) ∷ []) ∙ and_both _ _ before (and_both _ _ (digit_is_no_gap (m % 10) (omega arith)) refl))
     n small
 
-letters_have_none : (bytes : List ℕ) → list_all (λ b. is_letter b || is_digit b) bytes ≡ true → no_gap bytes ≡ true
+letters_have_none : (bytes : List ℕ) → list_all is_identifier_byte bytes ≡ true → no_gap bytes ≡ true
 letters_have_none [] h = refl
 letters_have_none (byte ∷ bytes) h =
-    let parts = and_parts (is_letter byte || is_digit byte) (list_all (λ b. is_letter b || is_digit b) bytes) h in
+    let parts = and_parts (is_identifier_byte byte) (list_all is_identifier_byte bytes) h in
     and_both _ _ (letter_is_no_gap byte parts.0) (letters_have_none bytes parts.1)
 
 or_first : (a b : Bool) → a ≡ true → (a || b) ≡ true
@@ -68,8 +88,8 @@ or_first false b e = cc
 name_has_none : (name : List ℕ) → is_name name ≡ true → no_gap name ≡ true
 name_has_none [] h = refl
 name_has_none (byte ∷ bytes) h =
-    let parts = and_parts (is_letter byte) (list_all (λ b. is_letter b || is_digit b) bytes) h in
-    and_both _ _ (letter_is_no_gap byte (or_first (is_letter byte) (is_digit byte) parts.0)) (letters_have_none bytes parts.1)
+    let parts = and_parts (is_nondigit byte) (list_all is_identifier_byte bytes) h in
+    and_both _ _ (letter_is_no_gap byte (or_first (is_nondigit byte) _ parts.0)) (letters_have_none bytes parts.1)
 
 pub option_has_none : (name : List ℕ) → is_option_name name ≡ true → no_gap name ≡ true
 option_has_none name h = name_has_none name (and_parts (is_name name) _ (and_parts _ _ h).0).0

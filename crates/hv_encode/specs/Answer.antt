@@ -1,17 +1,21 @@
 -- The answers of the tool: each has a status, the bytes for its output, and a message.
 use Rattle.std.specs.Prelude.{ℕ, List, [], ◌++◌, codes, decimal}
+use Rattle.hv_base.specs.declared.status.Status.{Status}
+use Rattle.hv_base.specs.declared.status.Status.TheVariants.{Done, Refused, Unread}
+use Rattle.hv_base.specs.declared.status.Status.TheVariants as status
 use Rattle.hv_model.specs.ModelKind.{kind_number, kind_name}
-use Rattle.hv_encode.specs.declared.answer.Answer.{Answer}
-use Rattle.hv_encode.specs.declared.answer.Answer.TheVariants.{Encoded, LeftOut, BadWords, CannotRead, NoFile, TooBig, BadModel}
+use Rattle.hv_encode.specs.declared.cli.answer.Answer.{Answer}
+use Rattle.hv_encode.specs.declared.cli.answer.Answer.TheVariants.{Encoded, LeftOut, BadWords, CannotRead, NoFile, TooBig, BadModel}
 
-abbrev pub status_of : Answer → ℕ
-status_of (Encoded _) = 0
-status_of (LeftOut _ _) = 1
-status_of BadWords = 2
-status_of (CannotRead _) = 3
-status_of (NoFile _) = 3
-status_of (TooBig _ _ _) = 3
-status_of (BadModel _) = 7
+-- with which status the program ends
+abbrev pub status_of : Answer → Status
+status_of (Encoded _) = Done
+status_of (LeftOut _ _) = Refused
+status_of BadWords = status.BadWords
+status_of (CannotRead _) = Unread
+status_of (NoFile _) = Unread
+status_of (TooBig _ _ _) = Unread
+status_of (BadModel _) = status.BadModel
 
 -- what goes to the output: the metaproduct, and nothing else
 abbrev pub output_of : Answer → List ℕ
@@ -27,20 +31,23 @@ output_of (BadModel _) = []
 abbrev pub message_of : Answer → List ℕ
 message_of (Encoded _) = []
 message_of (LeftOut config file) =
-    codes "hercules: fails config=" ++ config ++ codes " file=" ++ file ++ codes " line=1 offset=0 via=- why=14 LeftOut\n"
+    codes "hercules: fails config=" ++ config ++ codes " file=" ++ file
+    ++ codes " line=1 offset=0 via=- why=14 LeftOut\n"
 message_of BadWords = codes "hercules: bad words\n"
 message_of (CannotRead name) = codes "hercules: cannot read " ++ name ++ codes "\n"
 message_of (NoFile name) = codes "hercules: no file " ++ name ++ codes "\n"
 message_of (TooBig name size total) =
-    codes "hercules: too big " ++ name ++ codes " " ++ decimal size ++ codes " " ++ decimal total ++ codes "\n"
+    codes "hercules: too big " ++ name ++ codes " " ++ decimal size ++ codes " " ++ decimal total
+    ++ codes "\n"
 message_of (BadModel found) =
-    codes "hercules: model line=" ++ decimal found.line ++ codes " kind=" ++ decimal (kind_number found.kind)
+    codes "hercules: model line=" ++ decimal found.line ++ codes " kind="
+    ++ decimal (kind_number found.kind)
     ++ codes " " ++ kind_name found.kind ++ codes "\n"
 
 -- the message where a write to the output failed
 abbrev pub cannot_write : List ℕ
 cannot_write = codes "hercules: cannot write\n"
 
--- the message for want of memory
+-- the message where memory ran out
 abbrev pub want_of_memory : List ℕ
 want_of_memory = codes "hercules: want of memory\n"

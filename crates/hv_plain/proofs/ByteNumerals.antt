@@ -6,7 +6,7 @@ use Rattle.std.proofs.lemmas.Fmt.{decimal_digit, decimal_step}
 use Rattle.std.proofs.lemmas.Bool.Decides.{nat_tests, leb_tells}
 use Rattle.std.proofs.lemmas.Option.{cond_some, none-some}
 use Rattle.hv_base.specs.Ascii.{is_digit}
-use Rattle.hv_plain.specs.SmallReader.{byte_of}
+use Rattle.hv_plain.specs.working.SmallReader.{byte_of}
 
 one_digit : (n : ℕ) → n < 10 → byte_of ((48 + n) ∷ []) ≡ Some n
 one_digit n h = grind (arith, nat_tests)

@@ -10,7 +10,7 @@ use Rattle.std.proofs.lemmas.Option.{none-some, slice_get-get_or}
 use Rattle.std.proofs.lemmas.Bool.Decides.{eqb_tells}
 use Rattle.hv_plain.proofs.Places.{position-exists, cond_value, get_or-replicate_default, Contains-single}
 use Rattle.hv_plain.specs.Run.{start, variable_of, variables_of}
-use Rattle.hv_plain.specs.SmallReader.{option_number, at_option, known_value, unknown}
+use Rattle.hv_plain.specs.working.SmallReader.{option_number, at_option, known_value, unknown}
 
 -- a variable that has a number is that option's
 pub option_number-Some : (names : List (List ℕ)) (v : List ℕ) (i : ℕ) → option_number names v ≡ Some i → (i < length names) × (v ≡ variable_of (get_or names i []))

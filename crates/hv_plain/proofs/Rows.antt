@@ -5,14 +5,14 @@ use Rattle.std.specs.List.{slice_split}
 use Rattle.hv_base.specs.Ascii.{is_newline}
 use Rattle.hv_plain.specs.Bytes.{trimmed}
 use Rattle.hv_plain.specs.Config.{is_on}
-use Rattle.hv_plain.specs.Source.{Line, put, if_defined, if_not_defined, otherwise, end_if, source_lines, is_nested, kept}
+use Rattle.hv_plain.specs.Source.{SourceLine, put, if_defined, if_not_defined, otherwise, end_if, source_lines, is_nested, kept}
 use Rattle.hv_plain.specs.Program.{Program, program_tokens, shown}
 use Rattle.hv_plain.specs.Run.{start, output_of, variable_of}
 
 options_A : List (List ℕ)
 options_A = codes "A" ∷ []
 
-body_1 : List Line
+body_1 : List SourceLine
 body_1 = put 120 ∷ if_defined (codes "A") ∷ put 65 ∷ end_if ∷ []
 
 source_1 : List ℕ
@@ -31,7 +31,7 @@ unfolding options_A body_1
 without_A = refl
 
 -- an `#else` within a skipped group is read in neither way
-nested_groups : List Line
+nested_groups : List SourceLine
 nested_groups = if_not_defined (codes "A") ∷ if_defined (codes "A") ∷ put 1 ∷ otherwise ∷ put 2 ∷ end_if ∷ otherwise ∷ put 3 ∷ end_if ∷ []
 
 nested_with_A : kept (is_on options_A (true ∷ [])) [] nested_groups ≡ 3 ∷ []

@@ -6,7 +6,7 @@ use Rattle.std.proofs.lemmas.Option.{none-some, same_Some}
 use Rattle.hv_plain.specs.Bytes.{is_gap}
 use Rattle.hv_plain.specs.Program.{Program, IsProgramText}
 use Rattle.hv_plain.specs.Run.{IsOutputOf, output_of, run, start, variables_of}
-use Rattle.hv_plain.specs.SmallReader.{answer, run_from, start_due, unknown}
+use Rattle.hv_plain.specs.working.SmallReader.{answer, run_from, start_due, unknown}
 use Rattle.hv_plain.proofs.SmallCompleteness.{program_read}
 use Rattle.hv_plain.proofs.SmallSoundness.{IsRead, tokens_read}
 

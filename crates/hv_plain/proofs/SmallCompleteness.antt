@@ -6,7 +6,7 @@ use Rattle.std.proofs.lemmas.List.{append-nil, length-set, length-replicate}
 use Rattle.std.proofs.lemmas.List.Elements.{All-head, All-tail}
 use Rattle.hv_plain.specs.Program.{Literal, Statement, Program, IsTyped, IsTypedStatement, literal_tokens, test_tokens, call_tokens, guarded_tokens, statement_tokens, declaration_tokens, head_tokens, program_tokens}
 use Rattle.hv_plain.specs.Run.{literal_holds, output_of, start, variables_of}
-use Rattle.hv_plain.specs.SmallReader.{wanted, run_from, next, known_value, option_number, start_due, unknown}
+use Rattle.hv_plain.specs.working.SmallReader.{wanted, run_from, next, known_value, option_number, start_due, unknown}
 use Rattle.hv_plain.specs.declared.small.reader.State.TheVariants.{Declarations, Body, Operand, AfterOperand, Byte}
 use Rattle.hv_plain.proofs.ByteNumerals.{byte_of-decimal}
 use Rattle.hv_plain.proofs.OptionVariables.{Agrees, Agrees-start, Agrees-declare, is_true, known_value-number, variable-is_no_bang, option_number-given}

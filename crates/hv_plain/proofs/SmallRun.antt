@@ -3,7 +3,7 @@ use Rattle.std.proofs.Common.{◌≡◌, ℕ, ◌<◌, ◌≤◌, ◌+◌, Bool,
 use Rattle.std.specs.Option.{option_and_then, IfSome}
 use Rattle.std.specs.Str.{bytes_eq}
 use Rattle.std.proofs.lemmas.List.{at_drop_more, at_drop_all, length-set}
-use Rattle.hv_plain.specs.SmallReader.{Wanted, Reading, run_from, moved, next, next_by, next_in, declared, behind_operand, behind_negated, behind_byte, known_value, option_number, byte_of, known_after, output_after, is_done, IsWithin}
+use Rattle.hv_plain.specs.working.SmallReader.{Wanted, Reading, run_from, moved, next, next_by, next_in, declared, behind_operand, behind_negated, behind_byte, known_value, option_number, byte_of, known_after, output_after, is_done, IsWithin}
 use Rattle.hv_plain.specs.declared.small.reader.State.{State}
 use Rattle.hv_plain.specs.declared.small.reader.State.TheVariants.{Declarations, Variable, Body, Operand, Negated, AfterOperand, Byte, End}
 use Rattle.hv_plain.specs.declared.small.reader.Action.{Action}

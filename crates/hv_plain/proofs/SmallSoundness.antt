@@ -10,7 +10,7 @@ use Rattle.std.proofs.lemmas.Option.{cond_some, none-some}
 use Rattle.std.proofs.lemmas.Slice.Eq.{bytes_eq-Decides}
 use Rattle.hv_plain.specs.Program.{Literal, Statement, Program, IsTyped, IsTypedStatement, literal_tokens, test_tokens, call_tokens, statement_tokens, declaration_tokens, head_tokens, program_tokens}
 use Rattle.hv_plain.specs.Run.{variables_of}
-use Rattle.hv_plain.specs.SmallReader.{Reading, wanted, reading, moved, run_from, next, known_after, output_after, known_value, option_number, behind_operand, behind_negated, behind_byte, declared, byte_of, start_due, unknown, is_done, rest_of_head}
+use Rattle.hv_plain.specs.working.SmallReader.{Reading, wanted, reading, moved, run_from, next, known_after, output_after, known_value, option_number, behind_operand, behind_negated, behind_byte, declared, byte_of, start_due, unknown, is_done, rest_of_head}
 use Rattle.hv_plain.specs.declared.small.reader.State.{State}
 use Rattle.hv_plain.specs.declared.small.reader.State.TheVariants.{Declarations, Variable, Body, Operand, Negated, AfterOperand, Byte, End}
 use Rattle.hv_plain.specs.declared.small.reader.Action.TheVariants.{Nothing, Declare, Put}

@@ -1,6 +1,6 @@
 //! Decimal numerals of bytes.
 ghost use Rattle.std.specs.Prelude.{◌≡◌, ◌≢◌, ◌<◌, ℕ, IfNone, IfSome, decimal};
-ghost use Rattle.hv_plain.specs.SmallReader.{byte_of as numeral};
+ghost use Rattle.hv_plain.specs.working.SmallReader.{byte_of as numeral};
 
 /// The byte of one to three digits, as the reader of small programs has it.
 pub(crate) fn read_digits(token: &[u8]) -> Option<u8>

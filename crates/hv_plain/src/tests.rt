@@ -8,7 +8,13 @@ fn small_programs_put_their_bytes(rt: HostRuntime) -> Result<(), Fail> {
     let table = [
         ("int putchar ( int ) ;\nint main ( void ) {\n}\n", Some("")),
         (
-            "int putchar ( int ) ;\nint main ( void ) {\nputchar ( 120 ) ;\nputchar ( 10 ) ;\n}\n",
+            "\
+int putchar ( int ) ;
+int main ( void ) {
+putchar ( 120 ) ;
+putchar ( 10 ) ;
+}
+",
             Some("x\n"),
         ),
         (
@@ -42,7 +48,12 @@ fn small_programs_put_their_bytes(rt: HostRuntime) -> Result<(), Fail> {
             None,
         ),
         (
-            "int putchar ( int ) ;\nint main ( void ) {\nif ( hv_opt_A ) putchar ( 120 ) ;\n}\n",
+            "\
+int putchar ( int ) ;
+int main ( void ) {
+if ( hv_opt_A ) putchar ( 120 ) ;
+}
+",
             None,
         ),
         (
@@ -75,8 +86,15 @@ fn small_programs_put_bytes_that_are_no_text(rt: HostRuntime) -> Result<(), Fail
     let config = Config {
         on: List::new(rt.alloc()),
     };
-    let text =
-        b"int putchar ( int ) ;\nint main ( void ) {\nputchar ( 255 ) ;\nputchar ( 10 ) ;\nputchar ( 99 ) ;\nputchar ( 100 ) ;\n}\n";
+    let text = b"\
+int putchar ( int ) ;
+int main ( void ) {
+putchar ( 255 ) ;
+putchar ( 10 ) ;
+putchar ( 99 ) ;
+putchar ( 100 ) ;
+}
+";
     let answer = small_run(rt.alloc(), text, &model, &config)?;
     assert_eq!(rt;
         answer.as_ref().map(|bytes| bytes.as_slice()),
@@ -94,15 +112,39 @@ fn small_programs_test_their_options(rt: HostRuntime) -> Result<(), Fail> {
     // The outputs in the configurations without options, with A, with AB, and with both.
     let table = [
         (
-            "extern int hv_opt_A ;\nint putchar ( int ) ;\nint main ( void ) {\nif ( hv_opt_A ) putchar ( 65 ) ;\nif ( ! hv_opt_A ) putchar ( 97 ) ;\nputchar ( 46 ) ;\n}\n",
+            "\
+extern int hv_opt_A ;
+int putchar ( int ) ;
+int main ( void ) {
+if ( hv_opt_A ) putchar ( 65 ) ;
+if ( ! hv_opt_A ) putchar ( 97 ) ;
+putchar ( 46 ) ;
+}
+",
             [Some("a."), Some("A."), Some("a."), Some("A.")],
         ),
         (
-            "extern int hv_opt_AB ;\nextern int hv_opt_A ;\nextern int hv_opt_A ;\nint putchar ( int ) ;\nint main ( void ) {\nif ( hv_opt_A && ! hv_opt_AB ) putchar ( 49 ) ;\nif ( ! hv_opt_A && hv_opt_AB && hv_opt_AB ) putchar ( 50 ) ;\nif ( hv_opt_AB && ! hv_opt_AB ) putchar ( 51 ) ;\n}\n",
+            "\
+extern int hv_opt_AB ;
+extern int hv_opt_A ;
+extern int hv_opt_A ;
+int putchar ( int ) ;
+int main ( void ) {
+if ( hv_opt_A && ! hv_opt_AB ) putchar ( 49 ) ;
+if ( ! hv_opt_A && hv_opt_AB && hv_opt_AB ) putchar ( 50 ) ;
+if ( hv_opt_AB && ! hv_opt_AB ) putchar ( 51 ) ;
+}
+",
             [Some(""), Some("1"), Some("2"), Some("")],
         ),
         (
-            "extern int hv_opt_A ;\nint putchar ( int ) ;\nint main ( void ) {\nif ( hv_opt_AB ) putchar ( 65 ) ;\n}\n",
+            "\
+extern int hv_opt_A ;
+int putchar ( int ) ;
+int main ( void ) {
+if ( hv_opt_AB ) putchar ( 65 ) ;
+}
+",
             [None, None, None, None],
         ),
         (
@@ -114,11 +156,23 @@ fn small_programs_test_their_options(rt: HostRuntime) -> Result<(), Fail> {
             [None, None, None, None],
         ),
         (
-            "extern int hv_opt_A ;\nint putchar ( int ) ;\nint main ( void ) {\nif ( ! ! hv_opt_A ) putchar ( 65 ) ;\n}\n",
+            "\
+extern int hv_opt_A ;
+int putchar ( int ) ;
+int main ( void ) {
+if ( ! ! hv_opt_A ) putchar ( 65 ) ;
+}
+",
             [None, None, None, None],
         ),
         (
-            "extern int hv_opt_A ;\nint putchar ( int ) ;\nint main ( void ) {\nif ( hv_opt_A && ) putchar ( 65 ) ;\n}\n",
+            "\
+extern int hv_opt_A ;
+int putchar ( int ) ;
+int main ( void ) {
+if ( hv_opt_A && ) putchar ( 65 ) ;
+}
+",
             [None, None, None, None],
         ),
     ];

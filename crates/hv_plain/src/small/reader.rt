@@ -2,7 +2,7 @@ ghost use Rattle.std.specs.Prelude.{◌≡◌, length, map, IfOk, OnOk};
 ghost use Rattle.std.specs.Option.{option_map};
 ghost use Rattle.hv_plain.specs.Bytes.{is_gap};
 ghost use Rattle.hv_plain.specs.declared.small.reader.Action.TheVariants.{Nothing};
-ghost use Rattle.hv_plain.specs.SmallReader.{IsWithin, answer, behind_byte, behind_negated, byte_of, declared, known_value, is_done, known_after, next, next_at_operand, next_behind_operand, next_in, next_in_body, next_in_declarations, option_number, output_after, reading, reading_of, wanted_of};
+ghost use Rattle.hv_plain.specs.working.SmallReader.{IsWithin, answer, behind_byte, behind_negated, byte_of, declared, known_value, is_done, known_after, next, next_at_operand, next_behind_operand, next_in, next_in_body, next_in_declarations, option_number, output_after, reading, reading_of, wanted_of};
 
 use crate::numeral::read_digits;
 use hv_base::{Config, Memory, Text};

@@ -4,7 +4,7 @@ use Rattle.std.proofs.lemmas.Iterator.Consumers.{YieldsList-turn, YieldsList-end
 use Rattle.std.proofs.lemmas.Iterator.Splits.{YieldsList-from_slice_split}
 use Rattle.std.proofs.lemmas.List.{length_push}
 use Rattle.hv_plain.specs.Bytes.{is_gap}
-use Rattle.hv_plain.specs.SmallReader.{wanted_of, reading_of}
+use Rattle.hv_plain.specs.working.SmallReader.{wanted_of, reading_of}
 use Rattle.hv_plain.proofs.SmallRun.{run_from-refuses, run_from-goes, run_from-ends, length-known_after, next-within}
 use Rattle.hv_plain.proofs.small.reader.read.Goals as goal
 

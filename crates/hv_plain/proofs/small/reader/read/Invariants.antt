@@ -1,7 +1,7 @@
 use Rattle.std.proofs.Common.{◌≡◌, length, drop}
 use Rattle.std.specs.List.{slice_split}
 use Rattle.hv_plain.specs.Bytes.{is_gap}
-use Rattle.hv_plain.specs.SmallReader.{run_from, answer, wanted_of}
+use Rattle.hv_plain.specs.working.SmallReader.{run_from, answer, wanted_of}
 use Rattle.hv_plain.proofs.small.reader.read.Given as goal
 
 -- what is left of the tokens has the answer of them all

@@ -1,0 +1,12 @@
+use Rattle.std.proofs.Common.{◌≡◌, [], drop, map}
+use Rattle.hv_cond.specs.Diagram.{Keeps}
+use Rattle.hv_plain.specs.Source.{is_nested}
+use Rattle.hv_encode.specs.working.Lift.{lifted}
+use Rattle.hv_encode.specs.working.Lines.{plain}
+use Rattle.hv_encode.specs.working.Presence.{IsAt}
+use Rattle.hv_encode.proofs.LiftingLemmas.{IsLiftedTo}
+use Rattle.hv_encode.proofs.small.lift.lift.Given as goal
+
+-- the lines so far are lifted
+abbrev pub invariant-loop-line : goal.invariant-loop-line
+invariant-loop-line l = IsLiftedTo l.fn.diagram l.diagram l.lines l.line-index l.lifting

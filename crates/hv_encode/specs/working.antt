@@ -1,0 +1,5 @@
+-- What single functions do. No promise of the program rests on these.
+pub mod Found
+pub mod Lift
+pub mod Lines
+pub mod Presence

@@ -1,0 +1,27 @@
+ghost use Rattle.std.specs.Prelude.{◌≡◌, reverse};
+ghost use Rattle.hv_model.specs.Bytes.{without_front_blanks as without_front};
+ghost use Rattle.hv_plain.specs.Bytes.{trimmed as trimmed_text};
+
+use hv_base::is_blank;
+use hv_model::skip_blanks;
+
+/// The text without the blanks at its end.
+fn without_back_blanks(text: &[u8]) -> &[u8]
+    ensures { result.now ≡ reverse (without_front (reverse text.now)) }
+{
+    let mut rest = text;
+    while let [more @ .., last] = rest {
+        if !is_blank(*last) {
+            return rest;
+        }
+        rest = more;
+    }
+    rest
+}
+
+/// The text without the blanks at both ends.
+pub fn trimmed(text: &[u8]) -> &[u8]
+    ensures { result.now ≡ trimmed_text text.now }
+{
+    without_back_blanks(skip_blanks(text))
+}

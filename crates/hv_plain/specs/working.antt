@@ -1,0 +1,2 @@
+-- What single functions of the reader of small programs do. No promise rests on these.
+pub mod SmallReader
