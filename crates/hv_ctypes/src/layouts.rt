@@ -1,4 +1,4 @@
-ghost use Rattle.std.specs.Prelude.{◌≡◌, ◌+◌, ◌*◌, ◌<◌, ◌≤◌, ◌^◌, IsTrue, IfSome, IsSomeAnd, max, map, Some};
+ghost use Rattle.std.specs.Prelude.{◌≡◌, ◌+◌, ◌*◌, ◌%◌, ◌<◌, ◌≤◌, ◌^◌, IsTrue, IfSome, IsSomeAnd, max, map, Some};
 ghost use Rattle.std.specs.Option.{option_and_then};
 ghost use Rattle.hv_base.specs.declared.limits.TheConstants.{MOST_OBJECT_BYTES};
 ghost use Rattle.hv_ctree.specs.types.Erasure.{type_of, member_of, compounds_of};
@@ -14,6 +14,7 @@ use hv_ctree::{CType, IntKind, Layout, Member, Shape, Types};
 /// function, or larger than the limit on objects.
 pub fn layout(types: &Types, t: &CType) -> Option<Layout>
     ensures value { result ≡ within_limit (layouts.layout (compounds_of types.now) (type_of t.now)) }
+    ensures whole { IfSome result (λ l. l.size % l.align ≡ 0) }
     ensures aligned { IfSome result (λ l. IsTrue (is_alignment l.align)) }
 {
     type_layout(types, t, types.compounds.len())
