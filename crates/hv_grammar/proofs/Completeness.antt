@@ -13,8 +13,8 @@ use Rattle.hv_grammar.specs.Symbols as symbols
 use Rattle.hv_grammar.specs.Expressions.{Words as WordKind, Naming, has_type, stars, braced, type_place, compound_place, enumeration_place, Reads, r_identifier, r_constant, r_string, r_parenthesized, r_subscript, r_call_none, r_call, r_member, r_postfix, r_prefix, r_unary, r_sizeof, r_sizeof_type, r_cast, r_binary, r_conditional, r_assign, r_comma, r_higher, ReadsArguments, r_argument, r_arguments, ReadsTypeName, r_type_name, ReadsSpecifiers, r_specifier, r_specifiers, ReadsSpecifier, r_storage, r_inline, r_qualifier, r_type, ReadsType, r_word, r_compound, r_enumeration, r_typedef_name, ReadsCompound, r_defined, r_mentioned, ReadsTag, r_no_tag, r_tag, ReadsMembers, r_member_first, r_members, ReadsMember, r_members_of, ReadsDeclarators, r_declarator_first, r_declarators, ReadsEnumeration, r_listed, r_listed_before, ReadsEnumerators, r_enumerator, r_enumerators, ReadsEnumerator, r_plain, r_valued, ReadsLastComma, r_no_comma, r_last_comma, ReadsDeclarator, r_declarator, ReadsDirect, r_core, r_suffix, ReadsCore, r_nothing, r_named, r_group, ReadsSuffix, r_unsized, r_sized, r_function, r_unprototyped, ReadsParameterTypes, r_fixed, r_variadic, ReadsParameters, r_parameter, r_parameters, ReadsParameter, r_parameter_named, r_parameter_abstract, ReadsAbstract, r_no_declarator, r_abstract}
 use Rattle.hv_grammar.specs.machine.Frames.{Owner, of_type_name, of_parameter, of_member, Mode, only_named, either, Frame, Parenthesis, AfterSizeof, Subscript, Callee, Calling, Prefix, Unary, Sizeof, SizeofType, CastType, Cast, Binary, Then, Else, Assign, Comma, Specified, Body, Listing, Valued, Owned, OwnedMembers, Group, Length, Parameters, hole_of, depth, within, State, Words, AfterCompound, AfterTag, AfterEnum, AfterEnumTag, MemberStart, EnumeratorStart, AfterEnumerator, Pointing, Direct, Bracket, ParameterNext, AfterEllipsis, by_operator, by_assignment, by_question, by_comma, by_bracket, by_parenthesis}
 use Rattle.hv_grammar.specs.machine.Steps.{state, want, have, Taken, quiet, loud, plainly, operand_at, ended, begins, may_lack_name, only_pointers, bracket_at, brace_at, comma_at, after, listed_at, body_ended, ellipsis_at, step_at}
-use Rattle.hv_grammar.specs.machine.Moves.{Moves, stays, takes}
-use Rattle.hv_grammar.proofs.Arriving.{joined, one, steps, Entry, entered, want_prefix, want_unary, want_sizeof, want_cast, want_then, want_calling, want_begun, Arrives, arrives_sized, arrives_higher, arrives_completed, arrives_identifier, arrives_constant, arrives_string, opens_paren, arrives_paren, arrives_subscript, arrives_call_none, ArrivesArguments, arrives_first, arrives_next, arrives_call, arrives_member, arrives_postfix, arrives_prefix, arrives_unary, arrives_sizeof, arrives_binary, arrives_conditional, arrives_assign, arrives_comma}
+use Rattle.hv_grammar.specs.machine.Moves.{taken, Moves, stays, takes}
+use Rattle.hv_grammar.proofs.Arriving.{sized_at, joined, one, steps, Entry, entered, want_prefix, want_unary, want_sizeof, want_cast, want_then, want_calling, want_begun, Arrives, arrives_sized, arrives_higher, arrives_completed, arrives_identifier, arrives_constant, arrives_string, opens_paren, arrives_paren, arrives_subscript, arrives_call_none, ArrivesArguments, arrives_first, arrives_next, arrives_call, arrives_member, arrives_postfix, arrives_prefix, arrives_unary, arrives_sizeof, arrives_binary, arrives_conditional, arrives_assign, arrives_comma}
 use Rattle.hv_grammar.proofs.ArrivingTypes.{steps_as, same_begin, Spec, Like, like_words, like_spec, Worded, Suits, suits_all, suits_type_name, suits_member, arrives_storage, arrives_inline, arrives_qualifier, arrives_word, arrives_typedef_name, compound_begun, enum_begun, like_mentioned, like_listed_before, Pointed, Bare, has_pointer, pointed_at, mode_of, owned, like_pointed, like_bare, ends_declarator, arrives_pointers}
 use Rattle.hv_grammar.proofs.ArrivingDeclarators.{fits_mode, is_bare, AfterOpen, opening, bracketed, arrives_bracket_qualifiers, want_length, DirectAt, arrives_middle, arrives_named, grouping, Declared, direct_declared}
 
@@ -59,7 +59,7 @@ arrives_sizeof_type : {m : State} {x : Bool} {before : List Frame} → Entry m x
     → Arrives m x 14 before (counted (suc d) p (keyword keywords.Sizeof) ∷ symbols.quiet (suc (suc d)) q left_paren ∷ ts) us (sizeof_type p t)
 arrives_sizeof_type {before = before} g p q r {t = t} e h = arrives_sized before (sizeof_type p t)
     (takes (entered g p (keyword keywords.Sizeof) refl operator (want (Sizeof p ∷ before)) refl (ap suc e))
-    (takes (steps (want (Sizeof p ∷ before)) inside (want (AfterSizeof q ∷ Sizeof p ∷ before)) q left_paren refl (ap (λ n. suc (suc n)) e))
+    (takes (taken true (ap (λ n. sized_at (want (AfterSizeof q ∷ Sizeof p ∷ before)) n) (sym (ap (λ n. suc (suc n)) e))))
     (joined h.moves (one (steps h.there inside (have 14 before (sizeof_type p t)) r right_paren (h.ends r puncts.RightParenthesis refl ∙ sizeof_closed p t before) (ap (λ n. suc (suc n)) e))))))
 
 cast_begun : {m : State} {x : Bool} {before : List Frame} → Entry m x before → {d : ℕ} (p q : Place) {ts us : List Marked} {t : TypeName} → d ≡ depth before → hole_of before ≤ 13

@@ -5,7 +5,7 @@ use Rattle.std.specs.Prelude.{ℕ, suc, Bool, true, false, List, [], ◌∷◌, 
 use Rattle.hv_base.specs.declared.place.Place.{Place}
 use Rattle.hv_ctree.specs.tree.Statements.{Stmt, case_of, default_of, compound, expression, if_only, if_else, switch, while_do, do_while, for_expressions, for_declaration, continue_loop, break_out, return_with, Items, no_items, then_item, Item, declares, does, function_definition, External, defines, declares_outside, empty, Declaration, Skeleton, hollow_empty, hollow_declaration, hollow_function, hollow_case, hollow_default, hollow_compound, hollow_expression, hollow_if, hollow_if_else, hollow_switch, hollow_while, hollow_do_while, hollow_for, hollow_for_declaration, hollow_continue, hollow_break, hollow_return}
 use Rattle.hv_ctree.specs.tree.Expressions.{Specifiers, Declarator}
-use Rattle.hv_grammar.specs.Symbols.{Symbol, hole, Marked}
+use Rattle.hv_grammar.specs.Symbols.{Symbol, hole, Marked, BeginsAt}
 use Rattle.hv_grammar.specs.Elements.{loose, External as Outside, Item as InBlock, ReadsElement, ReadsStatement}
 
 -- what fills a hole: a statement, or a block's items
@@ -59,7 +59,7 @@ under n t = record t { statements = n }
 
 -- a token that is no hole
 pub data IsToken : Symbol → Type 0 where
-  is_keyword : {s : Symbol} → (s ≡ hole → ⊥) → IsToken s
+  is_token : {s : Symbol} → (s ≡ hole → ⊥) → IsToken s
 
 mutual
   -- an element's own tokens, the holes filled, where so many statements are open
@@ -101,7 +101,8 @@ mutual
         → ReadsElement InBlock ts [] (hollow_declaration p g)
         → Fills n ts [] ws vs
         → ReadsItem n ws vs (declares p g)
-    r_does : {n : ℕ} {ws vs : List Marked} {s : Stmt} (p : Place)
+    r_does : {n : ℕ} {ws vs : List Marked} {s : Stmt} {p : Place}
+        → BeginsAt p ws
         → ReadsNested n ws vs s
         → ReadsItem n ws vs (does p s)
 

@@ -7,11 +7,13 @@ use Rattle.hv_grammar.specs.machine.Steps.{step}
 -- the machine takes the token with its marks. The truth values say that the `(` before the token,
 -- and the token itself, is one directly after `sizeof` that counts, which the token after it shows
 pub data Takes : State → Bool → Marked → State → Bool → Type 0 where
-  taken : {m n : State} {x : Bool} {t : Marked}
-      → step m t.token ≡ Some (record { state = n; depth = t.depth; role = t.role; late = x })
+  taken : {m n : State} {x : Bool} {t : Marked} (sized : Bool)
+      → step m t.token
+      ≡ Some (record { state = n; depth = t.depth; role = t.role; late = x; sized = sized })
       → Takes m x t n false
   taken_to_count : {m n : State} {x : Bool} {t : Marked} → t.role ≡ operator
-      → step m t.token ≡ Some (record { state = n; depth = t.depth; role = inside; late = x })
+      → step m t.token
+      ≡ Some (record { state = n; depth = t.depth; role = inside; late = x; sized = true })
       → Takes m x t n true
 
 -- from one state, before these tokens, the machine comes to another, before those

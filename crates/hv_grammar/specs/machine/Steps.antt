@@ -30,16 +30,17 @@ want stack = state stack Want
 abbrev pub have : ℕ → List Frame → Expr → State
 have k stack a = state stack (Have k a)
 
--- a token was taken, with its marks; `late` says that the `(` before it, directly after `sizeof`,
--- is a parenthesis, which counts
+-- a token was taken, with its marks; `sized` says that it is a `(` directly after `sizeof`, which
+-- counts if it is a parenthesis, and `late` that the token before it is one and does
 pub record Taken : Type 0 where
   pub state : State
   pub depth : ℕ
   pub role : Role
   pub late : Bool
+  pub sized : Bool
 
 abbrev pub took : Role → State → ℕ → Option Taken
-took r m d = Some (record { state = m; depth = d; role = r; late = false })
+took r m d = Some (record { state = m; depth = d; role = r; late = false; sized = false })
 
 abbrev pub quiet : State → ℕ → Option Taken
 quiet m d = took inside m d
@@ -192,8 +193,13 @@ pushed stack f = loud (want (f ∷ stack)) (weigh f (depth stack))
 
 -- `(`: after `sizeof` the next token says whether it counts
 abbrev pub paren_at : List Frame → Place → Option Taken
-paren_at (Sizeof p ∷ stack) q =
-    quiet (want (AfterSizeof q ∷ Sizeof p ∷ stack)) (suc (suc (depth stack)))
+paren_at (Sizeof p ∷ stack) q = Some (record {
+  state = want (AfterSizeof q ∷ Sizeof p ∷ stack);
+  depth = suc (suc (depth stack));
+  role = inside;
+  late = false;
+  sized = true;
+})
 paren_at stack q = pushed stack (Parenthesis q)
 
 abbrev pub close_call : List Frame → Option Taken
