@@ -1,5 +1,5 @@
 -- A layout's alignment is 1, 2, 4 or 8, and its size is a multiple of it.
-use Rattle.std.proofs.Common.{◌≡◌, ℕ, zero, suc, ◌+◌, ◌-◌, ◌*◌, ◌/◌, ◌%◌, max, Bool, true, false, cond, Option, None, Some, List, [], ◌∷◌, length, nat_eq, refl, sym, inl, inr, arith, subst}
+use Rattle.std.proofs.Common.{◌≡◌, ℕ, zero, suc, ◌+◌, ◌-◌, ◌*◌, ◌/◌, ◌%◌, max, Bool, true, false, cond, Option, None, Some, List, [], ◌∷◌, length, nat_eq, refl, sym, ◌∙◌, IsTrue, inl, inr, arith, subst}
 use Rattle.std.specs.Option.{option_and_then, option_map}
 use Rattle.std.specs.Prelude.{slice_get, IfSome}
 use Rattle.std.proofs.lemmas.Bool.Decides.{eqb_tells, leb_tells}
@@ -9,7 +9,7 @@ use Rattle.hv_ctree.specs.declared.types.IntKind.{IntKind}
 use Rattle.hv_ctree.specs.declared.types.IntKind.TheVariants.{Boolean, Char, SignedChar, UnsignedChar, Short, UnsignedShort, Int, UnsignedInt, Long, UnsignedLong, LongLong, UnsignedLongLong}
 use Rattle.hv_ctree.specs.types.Kinds.{kind_size}
 use Rattle.hv_ctree.specs.types.Plain.{PlainType, plain, PlainShape, void, integer, enumeration, compound, pointer, array, function, PlainMember, PlainCompound}
-use Rattle.hv_ctree.specs.types.Layouts.{layout, within_limit, scalar, repeated, layout_by, shape_layout_by, rounded_up, laid_out, member_layouts, compound_layout_by, compound_layout, largest_align, taken}
+use Rattle.hv_ctree.specs.types.Layouts.{layout, within_limit, scalar, repeated, layout_by, shape_layout_by, rounded_up, laid_out, member_layouts, compound_layout_by, compound_layout, largest_align, taken, is_alignment}
 
 -- how often the alignment goes into the size
 pub data IsWhole : ℕ → ℕ → Type 0 where
@@ -175,3 +175,34 @@ pub layout_whole : (compounds : List PlainCompound) (t : PlainType) →
 layout_whole compounds t =
     limited (layout compounds t)
     (type_whole (compound_layout compounds (length compounds)) (compound_whole compounds (length compounds)) t)
+
+------ next_offset
+
+none_of_them : (n : ℕ) → nat_eq n 1 ≡ false → nat_eq n 2 ≡ false → nat_eq n 4 ≡ false → nat_eq n 8 ≡ false →
+    IsTrue (is_alignment n) → ⊥
+none_of_them n a b c d h =
+    let e : is_alignment n ≡ false = rw (a, b, c, d) refl in
+    let wrong : false ≡ true = sym e ∙ h in
+    cc
+
+alignment : (n : ℕ) → IsTrue (is_alignment n) → IsAlign n
+alignment n h =
+    elim (eqb_tells n 1) [
+      | inl (is, e) ↦ subst IsAlign (sym e) is_1
+      | inr (isnt_1, _) ↦
+          elim (eqb_tells n 2) [
+            | inl (is, e) ↦ subst IsAlign (sym e) is_2
+            | inr (isnt_2, _) ↦
+                elim (eqb_tells n 4) [
+                  | inl (is, e) ↦ subst IsAlign (sym e) is_4
+                  | inr (isnt_4, _) ↦
+                      elim (eqb_tells n 8) [
+                        | inl (is, e) ↦ subst IsAlign (sym e) is_8
+                        | inr (isnt_8, _) ↦ absurd (none_of_them n isnt_1 isnt_2 isnt_4 isnt_8 h)
+                      ]
+                ]
+          ]
+    ]
+
+pub next_offset_whole : (position align : ℕ) → IsTrue (is_alignment align) → rounded_up position align % align ≡ 0
+next_offset_whole position align h = no_remainder _ _ (rounded_whole position align (alignment align h))

@@ -114,7 +114,7 @@ fn taken_after(is_union: bool, taken: u64, member: Layout) -> u64
     if is_union {
         taken.max(member.size)
     } else {
-        rounded_up(taken, member.align) + member.size
+        next_offset(taken, member.align) + member.size
     }
 }
 
@@ -135,7 +135,7 @@ fn padded(taken: u64, align: u64) -> Option<Layout>
         ≡ within_limit (Some (record { size = layouts.rounded_up taken align; align = align })) }
     ensures aligned { IfSome result (λ l. IsTrue (is_alignment l.align)) }
 {
-    let size = rounded_up(taken, align);
+    let size = next_offset(taken, align);
     if size > MOST_OBJECT_BYTES {
         None
     } else {
@@ -143,11 +143,16 @@ fn padded(taken: u64, align: u64) -> Option<Layout>
     }
 }
 
-fn rounded_up(position: u64, align: u64) -> u64
+/// Where a member with this alignment begins that stands after `position` bytes of its structure: at the least
+/// multiple of its alignment from there on (ISO/IEC 9899:1999, 6.7.2.1).
+pub fn next_offset(position: u64, align: u64) -> u64
     requires position { position ≤ MOST_OBJECT_BYTES }
     requires align { IsTrue (is_alignment align) }
     ensures value { result ≡ layouts.rounded_up position align }
-    ensures within { result < position + 8 }
+    ensures after { position ≤ result }
+    ensures multiple { result % align ≡ 0 }
+    ensures within { result < position + align }
+    ensures small { align ≤ 8 }
 {
     position + (align - position % align) % align
 }
