@@ -1,4 +1,5 @@
-//! The program `hercules`: it makes the real files, input and sinks, and hands them to the top call.
+//! The program `hercules`: it makes the real files, input and sinks, and hands them to the top
+//! call.
 #![tactic(auto)]
 
 use hv_base::Status;

@@ -60,7 +60,10 @@ plain_statement byte = record { test = []; byte = byte }
 -- the program that preprocessing leaves of a body in a configuration
 abbrev pub variant_of : List (List ℕ) → List Bool → List SourceLine → Program
 variant_of options values body =
-    record { variables = []; statements = map plain_statement (kept (is_on options values) [] body) }
+    record {
+      variables = [];
+      statements = map plain_statement (kept (is_on options values) [] body);
+    }
 
 -- the variables of a model's options
 abbrev pub variables_of : List (List ℕ) → List (List ℕ)
@@ -112,7 +115,8 @@ HasLine model body number =
 
 -- there is exactly one statement for each of the lines that some valid configuration has, in order:
 -- the lines are those of the body from this number on that write a byte, and write these bytes
-pub data OneEach (model : Features) (body : List SourceLine) : ℕ → List ℕ → List Statement → Type 0 where
+pub data OneEach (model : Features) (body : List SourceLine)
+    : ℕ → List ℕ → List Statement → Type 0 where
   done : (number : ℕ) → OneEach model body number [] []
   one : (number byte : ℕ) (statement : Statement)
       {bytes : List ℕ} {statements : List Statement}

@@ -28,10 +28,7 @@ fn files_are_missing_or_fail(rt: HostRuntime) -> Result<(), Fail> {
 
 /// A file of one byte more than a file may have.
 fn beyond_the_limit(alloc: Global) -> Result<Text, Fail> {
-    let mut bytes = Vec::with_capacity(alloc, 16_777_217)?;
-    for _ in 0..16_777_217u32 {
-        bytes.push(b'\n')?;
-    }
+    let bytes = vec![in alloc; b'\n'; 16_777_217]?;
     Ok(Text::from_vec(bytes))
 }
 

@@ -39,8 +39,8 @@ fn memory_runs_out_in_a_write(rt: HostRuntime) -> Result<(), Fail> {
     Ok(())
 }
 
-/// The status, the output and the messages of `encode m main.c` with an output that takes at most `most`
-/// bytes a call, and fails at the call of this number.
+/// The status, the output and the messages of `encode m main.c` with an output that takes at most
+/// `most` bytes a call, and fails at the call of this number.
 fn encode_to(alloc: Global, most: usize, fail: u64) -> Result<(u8, MemSink, SafeSink), Fail> {
     if most == 0 {
         return Err("a sink takes at least one byte".into());

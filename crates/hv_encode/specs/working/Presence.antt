@@ -52,7 +52,8 @@ AreConds store (one ∷ outer) = IsCondOf store (groups_of (one ∷ outer)) one.
 pub record AreOpen (store : Diagram) (open_groups : List OpenGroup) : Type 0 where
   pub conds : AreConds store open_groups
   pub marked : IsMarked (groups_of open_groups)
-  pub options : AllByRecursion (λ group. group.test.option < store.variables) (groups_of open_groups)
+  pub options : AllByRecursion (λ group. group.test.option < store.variables)
+      (groups_of open_groups)
 
 -- the options that the line names are below this number
 abbrev pub IsBelow : ℕ → BodyLine → Type 0

@@ -94,7 +94,8 @@ pub fn hercules<F: Files, I: Source, O: Sink, E: Sink>(
         (reads (F.state files.old) (F.state files.new))
         (writes (O.state out.old) (O.state out.new) (E.state err.old) (E.state err.new))
         result blamed }
-    ensures bad_model_where { (command : Command) (model_file source : List ℕ) (line : ℕ) (kind : ModelKind)
+    ensures bad_model_where { (command : Command) (model_file source : List ℕ) (line : ℕ)
+        (kind : ModelKind)
         → command_of (map string_bytes words.now) ≡ Some command
         → AreRead (reads (F.state files.old) (F.state files.new)) command model_file source
         → Says model_file (fault line kind) → IsOrFails Status.BadModel result }
@@ -104,7 +105,8 @@ pub fn hercules<F: Files, I: Source, O: Sink, E: Sink>(
         → IsModelOf model_file model → ((body : List SourceLine)
         → ¬ (IsSmallSource model.names source body))
         → IsOrFails Status.Refused result }
-    ensures complete { IsGood (map string_bytes words.now) (reads (F.state files.old) (F.state files.new))
+    ensures complete { IsGood (map string_bytes words.now)
+        (reads (F.state files.old) (F.state files.new))
         (writes (O.state out.old) (O.state out.new) (E.state err.old) (E.state err.new))
         → Succeeds (map string_bytes words.now)
         (reads (F.state files.old) (F.state files.new))

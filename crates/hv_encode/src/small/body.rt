@@ -47,8 +47,10 @@ pub fn rest_after_line<'a>(text: &'a [u8], line: &[u8]) -> Option<&'a [u8]>
 
 /// The lines of a body, which the closing line and nothing else follows.
 pub fn body_of(alloc: Global, model: &Model, text: &[u8]) -> Result<Option<Vec<BodyLine>>, Memory>
-    ensures known { IfOk result (λ answer. IfSome answer (λ lines. All (IsKnown model.now.names) lines.items)) }
-    ensures some { IfOk result (λ answer. IfSome answer (λ lines. IsCutInto text.now (map spelled (map (plain model.now.names) lines.items)
+    ensures known { IfOk result
+        (λ answer. IfSome answer (λ lines. All (IsKnown model.now.names) lines.items)) }
+    ensures some { IfOk result (λ answer. IfSome answer (λ lines.
+        IsCutInto text.now (map spelled (map (plain model.now.names) lines.items)
         ++ codes "}"
         ∷ []))) }
     ensures none { IfOk result (λ answer. IfNone answer ((body : List SourceLine)

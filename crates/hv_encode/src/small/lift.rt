@@ -109,8 +109,8 @@ impl Lifting {
         requires option { IsBelow store.old.variables line }
         requires few { store.old.variables ≤ 256 }
         ensures keeps { Keeps store.old store.new }
-        ensures goes { IfOk result (λ goes. (model : Features) (all : List Statement) (nested : Bool)
-            (rest : List BodyLine) → IsValidIn model store.old valid
+        ensures goes { IfOk result (λ goes. (model : Features) (all : List Statement)
+            (nested : Bool) (rest : List BodyLine) → IsValidIn model store.old valid
             → IsTrue (are_distinct model.names)
             → IsAt model store.old all nested (line ∷ rest) self.old
             → MatchBool goes (IsAt model store.new all nested rest self.new) (nested ≡ false)) }
@@ -145,7 +145,8 @@ pub fn lift(
     ensures valid { diagram.new.valid ≡ diagram.old.valid }
     ensures lifted { IfOk result (λ answer. IfSome answer (IsLifted diagram.old.model lines.now)) }
     ensures options { IfOk result
-        (λ answer. IfSome answer (λ product. All (HasOptions diagram.old.model.names) product.blocks)) }
+        (λ answer. IfSome answer
+        (λ product. All (HasOptions diagram.old.model.names) product.blocks)) }
     ensures nested { IfOk result
         (λ answer. is_some answer ≡ is_nested [] (map (plain diagram.old.model.names) lines.now)) }
 {

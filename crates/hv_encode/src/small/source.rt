@@ -40,7 +40,8 @@ pub fn lines_of(
     model: &Model,
     source: &[u8],
 ) -> Result<Option<Vec<BodyLine>>, Memory>
-    ensures known { IfOk result (λ answer. IfSome answer (λ lines. All (IsKnown model.now.names) lines.items)) }
+    ensures known { IfOk result
+        (λ answer. IfSome answer (λ lines. All (IsKnown model.now.names) lines.items)) }
     ensures free { IfOk result (λ answer. IfSome answer (λ _. IsFree model.now.names)) }
     ensures some { IfOk result (λ answer. IfSome answer (λ lines. IsCutInto source.now
         (codes "int putchar(int);" ∷ codes "int main(void) {"
