@@ -1,0 +1,5 @@
+pub mod CutLemmas
+pub mod MentionsLemmas
+pub mod SearchLemmas
+pub mod SearchOrderLemmas
+pub mod StepsLemmas

@@ -1,0 +1,39 @@
+-- Why gathering ends without a bundle.
+use Rattle.std.specs.Prelude.{ℕ, ◌≡◌, ◌<◌, ◌⊎◌, Bool, true, false, List, length, Option, Some, None, Result, Ok, Err, IsTrue}
+use Rattle.hv_base.specs.declared.limits.TheConstants.{MOST_FILE_BYTES, MOST_BUNDLE_BYTES}
+use Rattle.hv_outside.specs.Count.{Rose}
+use Rattle.hv_outside.specs.Files.{FileState}
+use Rattle.hv_gather.specs.declared.fault.GatherFault.{GatherFault}
+use Rattle.hv_gather.specs.declared.fault.GatherFault.TheVariants.{Read, MainAbsent, TooBig, Memory}
+
+-- a read failed, and this is the name of the latest one
+abbrev pub IsUnread : (before now : FileState) → (name : List ℕ) → Type 0
+IsUnread before now name = Rose before.faults now.faults × (now.failed_name ≡ Some name)
+
+-- a file of this length is too big, or all files with it are, which have `total` bytes; where it
+-- is told what the files hold, the file of this name has this length
+abbrev pub IsTooBig : FileState → (name : List ℕ) → (size total : ℕ) → Type 0
+IsTooBig state name size total =
+    ((MOST_FILE_BYTES < size) ⊎ (MOST_BUNDLE_BYTES < total))
+    × (IsTrue state.told
+    → (bytes : List ℕ) × (state.held name ≡ Some bytes) × (length bytes ≡ size))
+
+-- no file of this name was found
+abbrev pub IsAbsent : (before now : FileState) → (name : List ℕ) → Type 0
+IsAbsent before now name =
+    Rose before.absences now.absences × (IsTrue before.told → before.held name ≡ None)
+
+-- the fault has its cause; out of memory needs none
+abbrev pub IsCaused : (main : List ℕ) → (before now : FileState) → GatherFault → Type 0
+IsCaused main before now (Read name) = IsUnread before now name
+IsCaused main before now MainAbsent = IsAbsent before now main
+IsCaused main before now (TooBig name size total) = IsTooBig before name size total
+IsCaused main before now Memory = Unit {0}
+
+-- there is no main file, or memory ran out
+abbrev pub IsMainAbsent : {T : Type 0} → Result T GatherFault → Type 0
+IsMainAbsent (Ok _) = ⊥
+IsMainAbsent (Err (Read _)) = ⊥
+IsMainAbsent (Err MainAbsent) = Unit {0}
+IsMainAbsent (Err (TooBig _ _ _)) = ⊥
+IsMainAbsent (Err Memory) = Unit {0}

@@ -1,0 +1,2 @@
+-- The steps of the search.
+pub mod Steps
