@@ -16,6 +16,14 @@ use Rattle.hv_grammar.specs.Symbols.{Marked, at, quiet, counted, keyword, name, 
 use Rattle.hv_grammar.specs.Expressions.{Reads, r_identifier, r_postfix, r_unary, r_sizeof_type, r_cast, r_conditional, r_assign, r_higher, r_type_name, r_specifier, r_specifiers, r_type, r_word, r_typedef_name, r_declarator, r_no_pointers, r_core, r_suffix, r_named, r_nothing, r_no_qualifiers, r_sized, r_function, r_fixed, r_parameter, r_parameter_abstract, r_no_declarator, r_abstract, r_last_comma, ReadsParameter}
 use Rattle.hv_grammar.specs.Elements.{loose, ReadsElement, ReadsDeclaration, r_declaration, r_plain_declaration, r_init_declarator, r_initialized, r_bare, r_value, r_braced, r_initializer, r_no_designation, r_function_definition, r_case, r_nested, External as Outside, Nested}
 use Rattle.hv_grammar.specs.Scopes.{in_externals}
+use Rattle.std.proofs.Common.{map, arith, None}
+use Rattle.hv_ctree.specs.tree.Expressions.{Specifiers, Declarator}
+use Rattle.hv_ctree.specs.tree.Statements.{defines, function_definition, compound as block, then_item, no_items, does, expression, Program}
+use Rattle.hv_grammar.specs.Symbols.{Symbol}
+use Rattle.hv_grammar.specs.Elements.{r_null}
+use Rattle.hv_grammar.specs.Programs.{under, is_token, f_end, f_token, f_items, r_filled, r_no_items, r_items, r_does, r_defines, r_ended, r_externals, ReadsExternals}
+use Rattle.hv_grammar.specs.Grammar.{given, DerivesProgram}
+use Rattle.hv_grammar.specs.Refusal.{source_limits}
 
 -- the place at an offset
 abbrev on : ℕ → Place
@@ -176,3 +184,55 @@ name_after_type = refl
 -- the later declaration of one scope counts
 later_counts : is_some (in_externals (typedef_T ∷ int_T ∷ uses_T ∷ []) []) ≡ false
 later_counts = refl
+
+------ a whole program
+
+abbrev stands : ℕ → ℕ → Symbol → Marked
+stands n i s = under n (loose 0 (on i) s)
+
+abbrev int_words : Specifiers
+int_words = then_specifier no_specifiers (of_type (on 0) (word (on 0) int_word))
+
+abbrev just_x : Declarator
+just_x = declarator (on 1) no_pointers (named (on 1) x) no_suffixes
+
+-- int x { ; }
+abbrev small_program : Program
+small_program = record {
+  externals = defines (on 0) (function_definition (on 0) int_words just_x (block (on 2) (then_item no_items (does (on 3) (expression (on 3) None))))) ∷ [];
+}
+
+abbrev small_tokens : List Marked
+small_tokens = stands 1 0 (keyword keywords.Int) ∷ stands 1 1 (name x) ∷ stands 1 2 left_brace ∷ stands 2 3 semicolon ∷ stands 1 4 right_brace ∷ []
+
+reads_small : ReadsExternals small_tokens small_program.externals
+reads_small = r_externals
+    (r_defines 0 any_definition
+    (f_token (loose 0 (on 0) (keyword keywords.Int)) (is_token (λ e. cc)) (f_token (loose 0 (on 1) (name x)) (is_token (λ e. cc)) (f_token (loose 0 (on 2) left_brace) (is_token (λ e. cc))
+    (f_items (on 3) (r_items r_no_items (r_does (at_first _ _) (r_filled (r_null (on 3)) (f_token (loose 0 (on 3) semicolon) (is_token (λ e. cc)) f_end) refl refl)))
+    (f_token (loose 0 (on 4) right_brace) (is_token (λ e. cc)) f_end))))))
+    r_ended
+
+derives_small : DerivesProgram source_limits (map given small_tokens) small_program
+derives_small = record {
+  first = small_tokens;
+  tokens = refl;
+  reads = reads_small;
+  marks = refl;
+  limits = (
+    omega arith,
+    omega arith,
+    omega arith,
+    (
+      omega arith,
+      omega arith,
+      omega arith,
+      (
+        omega arith,
+        omega arith,
+        omega arith,
+        (omega arith, omega arith, omega arith, (omega arith, omega arith, omega arith, tt)),
+      ),
+    ),
+  );
+}
