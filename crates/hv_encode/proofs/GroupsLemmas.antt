@@ -1,5 +1,5 @@
 -- Open groups: their conditions, their flags, their nesting.
-use Rattle.std.proofs.Common.{◌≡◌, ℕ, ◌<◌, ◌≤◌, Bool, true, false, ◌&&◌, ◌||◌, List, [], ◌∷◌, length, map, reverse, cond, nat_lt, refl, sym, ◌∙◌, ap, arith, subst, Option, Some, None, slice_get}
+use Rattle.std.proofs.Common.{◌≡◌, ℕ, ◌<◌, ◌≤◌, Bool, true, false, ◌&&◌, List, [], ◌∷◌, length, reverse, cond, nat_lt, sym, ◌∙◌, ap, arith, subst, Some, None, slice_get}
 use Rattle.std.specs.List.{AllByRecursion, list_all, list_any}
 use Rattle.std.proofs.lemmas.Bool.Decides.{nat_tests}
 use Rattle.hv_base.proofs.Booleans.{and_comm}
@@ -16,7 +16,7 @@ use Rattle.hv_encode.specs.declared.small.line.BodyLine.{BodyLine}
 use Rattle.hv_encode.specs.declared.small.line.BodyLine.TheVariants.{IfDefined, IfNotDefined}
 use Rattle.hv_encode.specs.working.Lines.{name_at, plain}
 use Rattle.hv_encode.specs.declared.small.program.OptionTest.{OptionTest}
-use Rattle.hv_encode.specs.working.Lift.{IsMarked, has_literal, opened}
+use Rattle.hv_encode.specs.working.Lift.{has_literal, opened}
 use Rattle.hv_encode.specs.working.Presence.{AreConds, AreOpen, IsCondOf, elses_of, group_reads, groups_of, test_reads}
 
 ------ cond_within

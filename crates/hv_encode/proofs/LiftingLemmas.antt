@@ -1,20 +1,20 @@
 -- Which statements a lifting has: those that a valid configuration runs.
-use Rattle.std.proofs.Common.{◌≡◌, ℕ, zero, suc, ◌<◌, ◌≤◌, Bool, true, false, not, ◌&&◌, ◌||◌, ◌+◌, List, [], ◌∷◌, ◌++◌, length, map, take, drop, get_or, drop-cons, reverse, cond, refl, sym, ◌∙◌, ap, arith, subst, IsTrue, ◌⊎◌, inl, inr}
+use Rattle.std.proofs.Common.{◌≡◌, ℕ, zero, suc, ◌<◌, ◌≤◌, Bool, true, false, not, ◌&&◌, ◌+◌, List, [], ◌∷◌, ◌++◌, length, map, take, drop, get_or, reverse, cond, refl, sym, ◌∙◌, ap, arith, subst, IsTrue, ◌⊎◌, inl, inr}
 use Rattle.std.specs.Prelude.{Result, Ok, Err, IfOk, ◌↔◌, MatchBool}
 use Rattle.std.specs.List.{All, AllByRecursion, flat_map, list_all, list_any}
 use Rattle.std.specs.Str.{bytes_eq}
 use Rattle.std.proofs.lemmas.List.{append-nil, append_assoc, drop_all, drop_more, map-append, reverse-reverse, take_more, take_all}
 use Rattle.std.proofs.lemmas.Grind.{flat_map-append}
-use Rattle.std.proofs.lemmas.List.Elements.{All-nil, All-cons, All-append, All-push, All-from_recursion, recursion_from_All}
+use Rattle.std.proofs.lemmas.List.Elements.{All-nil, All-cons, All-append, All-push}
 use Rattle.std.proofs.lemmas.List.Folds.{list_all-map}
 use Rattle.std.proofs.lemmas.Slice.Eq.{bytes_eq-Decides}
-use Rattle.hv_base.proofs.Booleans.{and_parts, and_true, contrary, not_true, or_left, or_right}
+use Rattle.hv_base.proofs.Booleans.{and_parts, contrary, not_true, or_left, or_right}
 use Rattle.hv_base.proofs.Lists.{reverse-cons}
-use Rattle.hv_cond.specs.Diagram.{Diagram, IsNever, IsNode, Keeps, holds, value_of}
+use Rattle.hv_cond.specs.Diagram.{Diagram, IsNever, Keeps, holds, value_of}
 use Rattle.hv_cond.specs.Laws.{Keeps-trans}
 use Rattle.hv_cond.specs.declared.conditions.Cond.{Cond}
 use Rattle.hv_model.specs.Name.{are_distinct}
-use Rattle.hv_model.specs.Rule.{Features, IsValid, meets_all}
+use Rattle.hv_model.specs.Rule.{Features}
 use Rattle.hv_plain.specs.Config.{is_on}
 use Rattle.hv_plain.specs.Program.{Literal, Statement}
 use Rattle.hv_plain.specs.Run.{literal_holds, start}

@@ -1,19 +1,18 @@
 -- A lifting has exactly one statement for each line that some valid configuration has.
-use Rattle.std.proofs.Common.{◌≡◌, ℕ, suc, ◌<◌, ◌≤◌, ◌==◌, Bool, true, false, not, ◌&&◌, ◌||◌, List, [], ◌∷◌, map, cond, refl, sym, ◌∙◌, ap, subst, arith, ◌⊎◌, inl, inr}
-use Rattle.std.specs.List.{AllByRecursion, list_all, list_any}
+use Rattle.std.proofs.Common.{◌≡◌, ℕ, suc, ◌<◌, ◌≤◌, ◌==◌, Bool, true, false, not, List, [], ◌∷◌, map, cond, refl, sym, ◌∙◌, ap, subst, arith, ◌⊎◌, inl, inr}
+use Rattle.std.specs.List.{list_all, list_any}
 use Rattle.std.proofs.lemmas.Bool.Decides.{nat_tests, Decides-eqb}
 use Rattle.hv_base.proofs.Lists.{heads}
 use Rattle.hv_model.specs.Rule.{Features, IsValid}
 use Rattle.hv_plain.specs.Config.{is_on}
 use Rattle.hv_plain.specs.Program.{Statement}
-use Rattle.hv_plain.specs.Run.{HasLine, IsReached, IsRunIn, OneEach, done, one, left_out, literal_holds, start}
-use Rattle.hv_plain.specs.Source as source
+use Rattle.hv_plain.specs.Run.{IsReached, IsRunIn, OneEach, done, one, left_out}
 use Rattle.hv_plain.specs.Source.{SourceLine, put, if_defined, if_not_defined, otherwise, end_if, bytes_of, keeps_line, kept, numbered}
 use Rattle.hv_encode.specs.declared.small.line.BodyLine.{BodyLine}
 use Rattle.hv_encode.specs.declared.small.line.BodyLine.TheVariants.{Put, IfDefined, IfNotDefined, Else, EndIf}
 use Rattle.hv_encode.specs.declared.small.group.Group.{Group}
 use Rattle.hv_encode.specs.working.Lines.{name_at, plain}
-use Rattle.hv_encode.specs.working.Lift.{IsMarked, lifted, opened, statement_in, test_in}
+use Rattle.hv_encode.specs.working.Lift.{IsMarked, lifted, opened, statement_in}
 use Rattle.hv_encode.specs.working.Presence.{Prunes, none, keep, leave}
 use Rattle.hv_encode.proofs.Semantics.{all_read, group_reads, negated_value, test_holds}
 

@@ -1,5 +1,5 @@
 -- How an answer is given: by a status and by what two sinks got.
-use Rattle.std.specs.Prelude.{ℕ, ◌≡◌, ◌⊎◌, List, Option}
+use Rattle.std.specs.Prelude.{ℕ, ◌≡◌, ◌⊎◌, List}
 use Rattle.hv_outside.specs.Count.{Rose}
 use Rattle.hv_outside.specs.Sink.{Adds, AddsPrefix, SinkState}
 use Rattle.hv_base.specs.Status.{code_of}

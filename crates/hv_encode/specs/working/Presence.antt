@@ -1,5 +1,5 @@
 -- Under which configurations groups are active, and which statements a metaproduct has.
-use Rattle.std.specs.Prelude.{ℕ, ◌≡◌, ◌<◌, Bool, true, false, cond, not, ◌&&◌, List, [], ◌∷◌, ◌++◌, map, length, IsTrue, MatchBool}
+use Rattle.std.specs.Prelude.{ℕ, ◌≡◌, ◌<◌, Bool, true, false, cond, not, List, [], ◌∷◌, ◌++◌, map, length, IsTrue, MatchBool}
 use Rattle.std.specs.List.{All, AllByRecursion, flat_map, list_all}
 use Rattle.hv_cond.specs.Diagram.{Diagram, IsNode, holds, value_of}
 use Rattle.hv_cond.specs.declared.conditions.Cond.{Cond}

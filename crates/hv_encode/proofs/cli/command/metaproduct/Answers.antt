@@ -1,4 +1,4 @@
-use Rattle.std.proofs.Common.{◌≡◌, Option, Some, None, IfNone, refl}
+use Rattle.std.proofs.Common.{◌≡◌, Option, Some, None, IfNone}
 use Rattle.hv_encode.proofs.Finding.{left_out_made}
 use Rattle.hv_encode.proofs.LiftingLemmas.{valid_kept}
 use Rattle.hv_encode.proofs.cli.command.metaproduct.Goals as goal

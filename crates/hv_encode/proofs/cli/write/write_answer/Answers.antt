@@ -1,4 +1,4 @@
-use Rattle.std.proofs.Common.{◌∙◌, refl}
+use Rattle.std.proofs.Common.{◌∙◌}
 use Rattle.hv_encode.specs.Given.{writes}
 use Rattle.hv_encode.proofs.Writing.{IsGiven-unwritten, IsGiven-starved}
 use Rattle.hv_encode.proofs.cli.write.write_answer.Goals as goal

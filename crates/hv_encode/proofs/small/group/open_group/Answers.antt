@@ -1,7 +1,6 @@
-use Rattle.std.proofs.Common.{◌∷◌, ap, List, ◌∙◌}
+use Rattle.std.proofs.Common.{◌∷◌, ap, ◌∙◌}
 use Rattle.std.proofs.lemmas.Result.{on_ok_weaker}
 use Rattle.hv_encode.specs.declared.small.group.Group.{Group}
-use Rattle.hv_encode.specs.declared.small.group.OpenGroup.{OpenGroup}
 use Rattle.hv_encode.specs.working.Presence.{groups_of}
 use Rattle.hv_encode.proofs.GroupsLemmas.{entered, opened_is}
 use Rattle.hv_encode.proofs.small.group.open_group.Goals as goal

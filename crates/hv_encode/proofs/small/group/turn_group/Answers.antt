@@ -1,4 +1,3 @@
-use Rattle.hv_encode.specs.working.Presence.{AreOpen}
 use Rattle.hv_encode.proofs.GroupsLemmas.{innermost_option, outer_open}
 use Rattle.hv_encode.proofs.small.group.turn_group.Goals as goal
 

@@ -1,4 +1,4 @@
-use Rattle.std.proofs.Common.{sym, refl}
+use Rattle.std.proofs.Common.{refl}
 use Rattle.std.proofs.lemmas.Result.{on_ok_weaker}
 use Rattle.hv_encode.proofs.LiftingLemmas.{added_none, added_nothing, added_one}
 use Rattle.hv_encode.specs.working.Presence.{groups_of}

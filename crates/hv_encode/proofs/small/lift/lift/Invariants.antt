@@ -1,9 +1,3 @@
-use Rattle.std.proofs.Common.{◌≡◌, [], drop, map}
-use Rattle.hv_cond.specs.Diagram.{Keeps}
-use Rattle.hv_plain.specs.Source.{is_nested}
-use Rattle.hv_encode.specs.working.Lift.{lifted}
-use Rattle.hv_encode.specs.working.Lines.{plain}
-use Rattle.hv_encode.specs.working.Presence.{IsAt}
 use Rattle.hv_encode.proofs.LiftingLemmas.{IsLiftedTo}
 use Rattle.hv_encode.proofs.small.lift.lift.Given as goal
 

@@ -1,5 +1,4 @@
-use Rattle.std.proofs.Common.{map, take, ◌++◌, ap, ◌∙◌, get_or}
-use Rattle.hv_encode.specs.working.Lift.{literal_of}
+use Rattle.std.proofs.Common.{◌++◌, ap, ◌∙◌}
 use Rattle.hv_encode.proofs.Printed.{begun_next, test_all}
 use Rattle.hv_encode.proofs.small.print.write_test.Goals as goal
 
