@@ -1,6 +1,7 @@
--- The types of C. Read types.Plain (types as definitions see them), types.Erasure (which plain type a declared type is),
--- then types.Layout, types.Compatible, types.Composite and types.Conversions in any order.
+-- The types of C. Read types.Plain (types as definitions see them), types.Erasure (which plain type
+-- a declared type is), then types.Layout, types.Compatible, types.Composite and types.Conversions
+-- in any order.
 pub mod types
--- The tree of a program. Read tree.Expressions and tree.Statements (the tree as definitions see it), then
--- tree.Erase and tree.EraseStatements (which plain tree a declared tree is).
+-- The tree of a program. Read tree.Expressions and tree.Statements (the tree as definitions see
+-- it), then tree.Erase and tree.EraseStatements (which plain tree a declared tree is).
 pub mod tree

@@ -7,8 +7,8 @@ ghost use Rattle.hv_ctree.specs.types.Plain.{void, integer, enumeration, compoun
 use hv_base::List;
 use hv_ctree::{CType, IntKind, Shape, Types};
 
-/// Whether two types are compatible (ISO/IEC 9899:1999, 6.2.7). Two arrays are where one length is unknown; an
-/// array type within them has a length in both or in neither.
+/// Whether two types are compatible (ISO/IEC 9899:1999, 6.2.7). Two arrays are where one length is
+/// unknown; an array type within them has a length in both or in neither.
 pub fn compatible(_types: &Types, a: &CType, b: &CType) -> bool
     ensures value { result ≡ types.compatible (type_of a.now) (type_of b.now) }
     ensures symmetric { result ≡ types.compatible (type_of b.now) (type_of a.now) }

@@ -19,8 +19,9 @@ pub fn integer_kind(t: &CType) -> Option<IntKind>
     }
 }
 
-/// A value converted to an integer type (ISO/IEC 9899:1999, 6.3.1.2 and 6.3.1.3), wrapping where the type
-/// doesn't have it. Values are 64 bits in two's complement, a negative one with its sign in all of them.
+/// A value converted to an integer type (ISO/IEC 9899:1999, 6.3.1.2 and 6.3.1.3), wrapping where
+/// the type doesn't have it. Values are 64 bits in two's complement, a negative one with its sign
+/// in all of them.
 pub fn convert_to_kind(value: u64, kind: IntKind) -> u64
     ensures value { result ≡ converted kind value }
     ensures keeps { IsTrue (has kind value) → result ≡ value }
@@ -39,7 +40,8 @@ pub fn convert_to_kind(value: u64, kind: IntKind) -> u64
     }
 }
 
-// The bits of a signed value that has this remainder modulo `count`, the number of the type's values.
+// The bits of a signed value that has this remainder modulo `count`, the number of the type's
+// values.
 fn sign_extended(remainder: u64, count: u64) -> u64
     requires below { remainder < count }
     requires small { count ≤ 2 ^ 32 }

@@ -10,8 +10,8 @@ ghost use Rattle.hv_ctypes.specs.working.Walks as walks;
 use hv_base::{List, MOST_OBJECT_BYTES};
 use hv_ctree::{CType, IntKind, Layout, Member, Shape, Types};
 
-/// The size and the alignment of a type (ISO/IEC 9899:1999, 6.7.2.1), or `None` where it is incomplete, a
-/// function, or larger than the limit on objects.
+/// The size and the alignment of a type (ISO/IEC 9899:1999, 6.7.2.1), or `None` where it is
+/// incomplete, a function, or larger than the limit on objects.
 pub fn layout(types: &Types, t: &CType) -> Option<Layout>
     ensures value { result ≡ within_limit (layouts.layout (compounds_of types.now) (type_of t.now)) }
     ensures whole { IfSome result (λ l. l.size % l.align ≡ 0) }
@@ -143,8 +143,8 @@ fn padded(taken: u64, align: u64) -> Option<Layout>
     }
 }
 
-/// Where a member with this alignment begins that stands after `position` bytes of its structure: at the least
-/// multiple of its alignment from there on (ISO/IEC 9899:1999, 6.7.2.1).
+/// Where a member with this alignment begins that stands after `position` bytes of its structure:
+/// at the least multiple of its alignment from there on (ISO/IEC 9899:1999, 6.7.2.1).
 pub fn next_offset(position: u64, align: u64) -> u64
     requires position { position ≤ MOST_OBJECT_BYTES }
     requires align { IsTrue (is_alignment align) }
@@ -157,7 +157,8 @@ pub fn next_offset(position: u64, align: u64) -> u64
     position + (align - position % align) % align
 }
 
-// The structure or union that a type is, or that the elements of an array are, through all its dimensions.
+// The structure or union that a type is, or that the elements of an array are, through all its
+// dimensions.
 fn innermost(t: &CType) -> Option<u64>
     ensures { result ≡ walks.innermost (type_of t.now) }
 {

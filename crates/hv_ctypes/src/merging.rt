@@ -9,8 +9,8 @@ use hv_ctree::{CType, Shape, Types};
 use std::alloc::Global;
 use std::rc::Rc;
 
-/// The composite of two compatible types (ISO/IEC 9899:1999, 6.2.7), which knows what either knows. Of an
-/// enumeration and `int` it is the first.
+/// The composite of two compatible types (ISO/IEC 9899:1999, 6.2.7), which knows what either knows.
+/// Of an enumeration and `int` it is the first.
 pub fn composite(alloc: Global, _types: &Types, a: &CType, b: &CType) -> Result<CType, Memory>
     requires { IsTrue (compatibility.compatible (type_of a.now) (type_of b.now)) }
     ensures value { IfOk result (λ t. type_of t ≡ types.composite (type_of a.now) (type_of b.now)) }

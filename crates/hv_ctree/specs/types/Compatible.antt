@@ -1,5 +1,6 @@
--- Which types are compatible (6.2.7, 6.7.2.2, 6.7.3, 6.7.5). Structures and unions are by their numbers. Not in here:
--- old-style declarators (6.7.5.3 paragraph 15), since `()` means `(void)` in this profile and no identifier list is in it.
+-- Which types are compatible (6.2.7, 6.7.2.2, 6.7.3, 6.7.5). Structures and unions are by their
+-- numbers. Not in here: old-style declarators (6.7.5.3 paragraph 15), since `()` means `(void)` in
+-- this profile and no identifier list is in it.
 use Rattle.std.specs.Prelude.{ℕ, Bool, true, false, ◌&&◌, not, ◌==◌, Option, None, Some}
 use Rattle.hv_ctree.specs.declared.types.IntKind.TheVariants.{Int}
 use Rattle.hv_ctree.specs.types.Kinds.{same_kind}
@@ -21,7 +22,8 @@ abbrev pub lengths_agree : Option ℕ → Option ℕ → Bool
 lengths_agree (Some m) (Some n) = m == n
 lengths_agree _ _ = true
 
--- whether two types are compatible where they stand within others: there an array's length is known in both or in neither
+-- whether two types are compatible where they stand within others: there an array's length is known
+-- in both or in neither
 abbrev mutual
   pub alike : PlainType → PlainType → Bool
   alike (plain constant shape) (plain constant' shape') = same_truth constant constant' && shapes_alike shape shape'

@@ -1,4 +1,5 @@
--- The composite type of two compatible types (6.2.7 paragraph 3). Of an enumeration and `int` it is the first.
+-- The composite type of two compatible types (6.2.7 paragraph 3). Of an enumeration and `int` it is
+-- the first.
 use Rattle.std.specs.Prelude.{ℕ, false, Option, None, Some}
 use Rattle.hv_ctree.specs.types.Plain.{PlainType, plain, PlainShape, pointer, array, function, Parameters, no_parameter, parameter}
 

@@ -11,7 +11,8 @@ use Rattle.hv_ctree.specs.declared.types.CompoundType.{CompoundType}
 use Rattle.hv_ctree.specs.declared.types.Types.{Types}
 
 abbrev mutual
-  -- the plain shape of a declared one; each pointer of the program stands before the type that it leads to
+  -- the plain shape of a declared one; each pointer of the program stands before the type that it
+  -- leads to
   pub shape_of : Shape → PlainShape
   shape_of Void = void
   shape_of (Integer kind) = integer kind

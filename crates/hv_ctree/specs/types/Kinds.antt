@@ -100,7 +100,8 @@ unsigned_of UnsignedLong = UnsignedLong
 unsigned_of LongLong = UnsignedLongLong
 unsigned_of UnsignedLongLong = UnsignedLongLong
 
--- one more than the largest value of an integer type: half of the values of a signed one are negative
+-- one more than the largest value of an integer type: half of the values of a signed one are
+-- negative
 abbrev pub above_values : IntKind → ℕ
 above_values kind = if is_signed kind then value_count kind / 2 else value_count kind
 

@@ -8,7 +8,8 @@ keeps_length (Some m) (Some n) = m == n
 keeps_length None (Some n) = false
 keeps_length m None = true
 
--- whether each array within the first type has the length that the array at the same position of the second has
+-- whether each array within the first type has the length that the array at the same position of
+-- the second has
 abbrev mutual
   pub keeps : PlainType → PlainType → Bool
   keeps (plain constant shape) (plain constant' shape') = keeps_shape shape shape'

@@ -1,5 +1,6 @@
--- Sizes, alignments and offsets (6.2.6.1, 6.5.3.4, 6.7.2.1). A type has a layout where it is an object type that is
--- complete (6.2.5): no array is empty, no structure or union is, and none holds itself.
+-- Sizes, alignments and offsets (6.2.6.1, 6.5.3.4, 6.7.2.1). A type has a layout where it is an
+-- object type that is complete (6.2.5): no array is empty, no structure or union is, and none holds
+-- itself.
 use Rattle.std.specs.Prelude.{ℕ, nat_le, ◌||◌, ◌+◌, ◌*◌, ◌-◌, ◌%◌, max, zero, suc, Bool, ◌==◌, if◌then◌else◌, Option, None, Some, List, [], ◌∷◌, length, slice_get}
 use Rattle.std.specs.Option.{option_map, option_and_then}
 use Rattle.hv_ctree.specs.declared.types.Layout.{Layout}
@@ -36,8 +37,8 @@ abbrev mutual
 abbrev pub rounded_up : ℕ → ℕ → ℕ
 rounded_up position align = position + (align - position % align) % align
 
--- the offsets of members with these layouts, one after another, the first at the position or after it
--- (6.7.2.1 paragraph 13)
+-- the offsets of members with these layouts, one after another, the first at the position or after
+-- it (6.7.2.1 paragraph 13)
 abbrev pub offsets_from : ℕ → List Layout → List ℕ
 offsets_from position [] = []
 offsets_from position (member ∷ members) =
@@ -58,12 +59,13 @@ abbrev pub largest_size : List Layout → ℕ
 largest_size [] = 0
 largest_size (member ∷ members) = max member.size (largest_size members)
 
--- the bytes that members take, without padding after them: those of a union lie over one another (6.7.2.1 paragraph 14)
+-- the bytes that members take, without padding after them: those of a union lie over one another
+-- (6.7.2.1 paragraph 14)
 abbrev pub taken : Bool → List Layout → ℕ
 taken is_union members = if is_union then largest_size members else end_from 0 members
 
--- the layout of a structure or union with such members: padding after the last makes its size a multiple of its
--- alignment (6.7.2.1 paragraph 15)
+-- the layout of a structure or union with such members: padding after the last makes its size a
+-- multiple of its alignment (6.7.2.1 paragraph 15)
 abbrev pub laid_out : Bool → List Layout → Option Layout
 laid_out is_union [] = None
 laid_out is_union (member ∷ members) =
@@ -82,8 +84,8 @@ abbrev pub compound_layout_by : (ℕ → Option Layout) → PlainCompound → Op
 compound_layout_by compounds c =
     option_and_then (λ ms. option_and_then (laid_out c.is_union) (member_layouts compounds ms)) c.members
 
--- the layout of the structure or union with a number, where at most `depth` of them stand within one another. Without
--- a cycle no more can than there are
+-- the layout of the structure or union with a number, where at most `depth` of them stand within
+-- one another. Without a cycle no more can than there are
 abbrev pub compound_layout : List PlainCompound → ℕ → ℕ → Option Layout
 compound_layout compounds zero number = None
 compound_layout compounds (suc depth) number =

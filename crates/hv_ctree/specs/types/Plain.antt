@@ -7,9 +7,9 @@ mutual
   pub data PlainType : Type 0 where
     plain : Bool → PlainShape → PlainType
 
-  -- a type without its qualifier: an enumeration, structure or union by its number, an array with its length where it is
-  -- known, a function with its result, its parameters (their adjusted types, 6.7.5.3 paragraphs 7 and 8) and whether
-  -- `...` ends them
+  -- a type without its qualifier: an enumeration, structure or union by its number, an array with
+  -- its length where it is known, a function with its result, its parameters (their adjusted types,
+  -- 6.7.5.3 paragraphs 7 and 8) and whether `...` ends them
   pub data PlainShape : Type 0 where
     void : PlainShape
     integer : IntKind → PlainShape

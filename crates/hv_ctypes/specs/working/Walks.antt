@@ -5,7 +5,8 @@ use Rattle.hv_ctree.specs.declared.types.Layout.{Layout}
 use Rattle.hv_ctree.specs.types.Plain.{PlainType, plain, PlainShape, void, integer, enumeration, compound, pointer, array, function, PlainMember}
 use Rattle.hv_ctree.specs.types.Layouts.{rounded_up, layout_by}
 
--- the number of the structure or union that a type is, or that the elements of an array are, through all its dimensions
+-- the number of the structure or union that a type is, or that the elements of an array are,
+-- through all its dimensions
 abbrev mutual
   pub innermost : PlainType → Option ℕ
   innermost (plain constant shape) = innermost_shape shape
@@ -24,7 +25,8 @@ abbrev pub taken_after : Bool → ℕ → Layout → ℕ
 taken_after is_union taken member =
     if is_union then max taken member.size else rounded_up taken member.align + member.size
 
--- the layout of a structure or union of which the members so far take these bytes and have this alignment
+-- the layout of a structure or union of which the members so far take these bytes and have this
+-- alignment
 abbrev pub laid_from : (ℕ → Option Layout) → Bool → ℕ → ℕ → List PlainMember → Option Layout
 laid_from compounds is_union taken align [] = Some (record { size = rounded_up taken align; align = align })
 laid_from compounds is_union taken align (m ∷ ms) =
