@@ -3,6 +3,7 @@ use std::rc::Rc;
 
 // SAME: integer kinds
 /// An integer type of the profile other than an enumeration (ISO/IEC 9899:1999, 6.2.5).
+// SAME: integer kinds
 #[derive(Clone, Copy, Debug, PartialEq, Eq)]
 pub enum IntKind {
     /// `_Bool`
