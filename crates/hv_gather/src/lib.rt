@@ -21,10 +21,8 @@ use search::Search;
 use std::alloc::Global;
 
 /// The main file with all files that it may include: those that its `#include` lines mention, those
-/// that
-/// the lines of these files mention, and so on, through at most 64 nested mentions. Each file is
-/// read once
-/// and cut once.
+/// that the lines of these files mention, and so on, through at most 64 nested mentions. Each file
+/// is read once and cut once.
 pub fn gather<F: Files>(
     alloc: Global,
     files: &mut F,
