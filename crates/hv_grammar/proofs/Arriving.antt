@@ -72,7 +72,7 @@ one e = takes e stays
 
 -- a step at a token whose marks are as the machine says
 pub steps : (m : State) (r : Role) (n : State) {d e : ℕ} (p : Place) (s : Symbol) → step m (token_at p s) ≡ took r n e → d ≡ e → Takes m false (at r d p s) n false
-steps m r n p s h e = taken false (h ∙ ap (took r n) (sym e))
+steps m r n p s h e = taken false refl (h ∙ ap (took r n) (sym e))
 
 ------ where an operand may begin
 
@@ -116,7 +116,7 @@ pub record Entry (m : State) (x : Bool) (before : List Frame) : Type 0 where
 -- the first token of an operand
 pub entered : {m : State} {x : Bool} {before : List Frame} → Entry m x before → (p : Place) (s : Symbol) → begins_operand s ≡ true
     → (r : Role) (n : State) {d e : ℕ} → operand_at before p s ≡ took r n e → d ≡ e → Takes m x (at r d p s) n false
-entered {x = x} g p s b r n {d} {e} h same = taken false (g.enters p s b ∙ (ap (late_if x) (h ∙ ap (took r n) (sym same)) ∙ late_took x r n d))
+entered {x = x} g p s b r n {d} {e} h same = taken false refl (g.enters p s b ∙ (ap (late_if x) (h ∙ ap (took r n) (sym same)) ∙ late_took x r n d))
 
 pub want_prefix : (p : Place) (s : StepSign) (stack : List Frame) → Entry (want (Prefix p s ∷ stack)) false (Prefix p s ∷ stack)
 want_prefix p s stack = record { enters = λ q t b. refl }
@@ -383,7 +383,7 @@ pub opens_paren : {m : State} {x : Bool} (before : List Frame) {d : ℕ} (p : Pl
 opens_paren {x = x} (Sizeof q ∷ stack) {d} p g e = record {
   there = want (AfterSizeof p ∷ Sizeof q ∷ stack);
   pending = true;
-  opens = taken_to_count refl (g.enters p left_paren refl ∙ (ap (λ n. late_if x (sized_at (want (AfterSizeof p ∷ Sizeof q ∷ stack)) n)) (sym (ap suc e)) ∙ late_sized x (want (AfterSizeof p ∷ Sizeof q ∷ stack)) (suc d)));
+  opens = taken_to_count refl refl (g.enters p left_paren refl ∙ (ap (λ n. late_if x (sized_at (want (AfterSizeof p ∷ Sizeof q ∷ stack)) n)) (sym (ap suc e)) ∙ late_sized x (want (AfterSizeof p ∷ Sizeof q ∷ stack)) (suc d)));
   entry = want_sized q p stack;
 }
 opens_paren before p g e = opens_plainly before p g e refl

@@ -21,7 +21,7 @@ use Rattle.hv_grammar.proofs.Arriving.{joined, one}
 -- a step whose marks are as the machine says
 pub steps_as : {m n : State} {r s : Role} {d e : ℕ} (p : Place) (t : Symbol) → step_at m.stack m.at p t ≡ took s n e → r ≡ s → d ≡ e → Takes m false (at r d p t) n false
 steps_as {n = n} {s = s} {d = d} p t h same deep =
-    taken false (h ∙ (ap (λ k. took s n k) (sym deep) ∙ ap (λ k. took k n d) (sym same)))
+    taken false refl (h ∙ (ap (λ k. took s n k) (sym deep) ∙ ap (λ k. took k n d) (sym same)))
 
 -- the place at which a phrase begins is that of its first token
 pub first_of : {p : Place} {t : Marked} {ts : List Marked} → BeginsAt p (t ∷ ts) → t.token.place ≡ p

@@ -59,7 +59,7 @@ arrives_sizeof_type : {m : State} {x : Bool} {before : List Frame} → Entry m x
     → Arrives m x 14 before (counted (suc d) p (keyword keywords.Sizeof) ∷ symbols.quiet (suc (suc d)) q left_paren ∷ ts) us (sizeof_type p t)
 arrives_sizeof_type {before = before} g p q r {t = t} e h = arrives_sized before (sizeof_type p t)
     (takes (entered g p (keyword keywords.Sizeof) refl operator (want (Sizeof p ∷ before)) refl (ap suc e))
-    (takes (taken true (ap (λ n. sized_at (want (AfterSizeof q ∷ Sizeof p ∷ before)) n) (sym (ap (λ n. suc (suc n)) e))))
+    (takes (taken true refl (ap (λ n. sized_at (want (AfterSizeof q ∷ Sizeof p ∷ before)) n) (sym (ap (λ n. suc (suc n)) e))))
     (joined h.moves (one (steps h.there inside (have 14 before (sizeof_type p t)) r right_paren (h.ends r puncts.RightParenthesis refl ∙ sizeof_closed p t before) (ap (λ n. suc (suc n)) e))))))
 
 cast_begun : {m : State} {x : Bool} {before : List Frame} → Entry m x before → {d : ℕ} (p q : Place) {ts us : List Marked} {t : TypeName} → d ≡ depth before → hole_of before ≤ 13

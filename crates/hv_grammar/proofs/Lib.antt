@@ -7,3 +7,8 @@ pub mod ArrivingTypes
 pub mod ArrivingDeclarators
 pub mod Completeness
 pub mod OneTree
+pub mod Reached
+pub mod SoundExpressions
+pub mod SoundSpecifiers
+pub mod SoundDeclarators
+pub mod Soundness

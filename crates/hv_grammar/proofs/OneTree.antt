@@ -36,8 +36,8 @@ run_step m t ts k e = ap (λ o. next o) e where
 
 ran : {m n : State} {x y : Bool} {ts us : List Marked} → Moves m x ts n y us → run m (map (λ t. t.token) ts) ≡ run n (map (λ t. t.token) us)
 ran stays = refl
-ran (takes {m = m} {t = t} {ts = ts} (taken b e) g) = run_step m t.token (map (λ u. u.token) ts) _ e ∙ ran g
-ran (takes {m = m} {t = t} {ts = ts} (taken_to_count r e) g) = run_step m t.token (map (λ u. u.token) ts) _ e ∙ ran g
+ran (takes {m = m} {t = t} {ts = ts} (taken b z e) g) = run_step m t.token (map (λ u. u.token) ts) _ e ∙ ran g
+ran (takes {m = m} {t = t} {ts = ts} (taken_to_count r z e) g) = run_step m t.token (map (λ u. u.token) ts) _ e ∙ ran g
 
 same_some : {A : Type 0} {a b : A} → Some a ≡ Some b → a ≡ b
 same_some e = cc

@@ -5,13 +5,14 @@ use Rattle.hv_grammar.specs.machine.Frames.{State}
 use Rattle.hv_grammar.specs.machine.Steps.{step}
 
 -- the machine takes the token with its marks. The truth values say that the `(` before the token,
--- and the token itself, is one directly after `sizeof` that counts, which the token after it shows
+-- and the token itself, is one directly after `sizeof` that counts, which the token after it shows.
+-- No statement is open at a token of an expression
 pub data Takes : State → Bool → Marked → State → Bool → Type 0 where
-  taken : {m n : State} {x : Bool} {t : Marked} (sized : Bool)
+  taken : {m n : State} {x : Bool} {t : Marked} (sized : Bool) → t.statements ≡ 0
       → step m t.token
       ≡ Some (record { state = n; depth = t.depth; role = t.role; late = x; sized = sized })
       → Takes m x t n false
-  taken_to_count : {m n : State} {x : Bool} {t : Marked} → t.role ≡ operator
+  taken_to_count : {m n : State} {x : Bool} {t : Marked} → t.role ≡ operator → t.statements ≡ 0
       → step m t.token
       ≡ Some (record { state = n; depth = t.depth; role = inside; late = x; sized = true })
       → Takes m x t n true
