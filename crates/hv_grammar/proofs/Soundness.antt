@@ -292,4 +292,4 @@ start_read ws = w_plainly (record { fits = omega arith; stacked = empty })
 
 -- what the machine accepts, the grammar derives, with this tree and these marks
 pub sound : {ts : List Marked} {n : State} {y : Bool} {a : Expr} → Moves (want []) false ts n y [] → finished n ≡ Some a → Reads 0 0 ts [] a
-sound {ts} {n} {y} {a} h e = finished_read n.stack n.at a {y} (moves_read ts (start_read ts) h) e
+sound {ts} {n} {y} {a} h e = finished_read n.stack n.at a y (moves_read ts (start_read ts) h) e

@@ -1,11 +1,14 @@
 -- What is proved of the grammar.
-use Rattle.std.specs.Prelude.{◌≡◌, ℕ, List, [], map}
+use Rattle.std.specs.Prelude.{◌≡◌, ℕ, Bool, false, List, [], map, Some}
 use Rattle.hv_ctree.specs.tree.Expressions.{Expr}
 use Rattle.hv_ctree.specs.tree.Statements.{Skeleton}
 use Rattle.hv_grammar.specs.Symbols.{Marked}
 use Rattle.hv_grammar.specs.Expressions.{Reads}
 use Rattle.hv_grammar.specs.Elements.{Standing, ReadsElement}
 use Rattle.hv_grammar.specs.Tokens.{tokens_of, own_tokens}
+use Rattle.hv_grammar.specs.machine.Frames.{State}
+use Rattle.hv_grammar.specs.machine.Steps.{want, finished}
+use Rattle.hv_grammar.specs.machine.Moves.{Moves}
 
 -- the tokens that an expression was read from are those of its tree
 abbrev pub ExpressionsKeepTokens : Type 0
@@ -22,3 +25,13 @@ abbrev pub ExpressionsHaveOneTree : Type 0
 ExpressionsHaveOneTree = (ts us : List Marked) (a b : Expr)
     → map (λ t. t.token) ts ≡ map (λ t. t.token) us
     → Reads 0 0 ts [] a → Reads 0 0 us [] b → a ≡ b
+
+-- what the machine accepts, over tokens with these marks, the grammar derives, with the same tree
+abbrev pub MachineIsSound : Type 0
+MachineIsSound = (ts : List Marked) (n : State) (y : Bool) (a : Expr)
+    → Moves (want []) false ts n y [] → finished n ≡ Some a → Reads 0 0 ts [] a
+
+-- what the grammar derives, the machine accepts, over the same marks and with the same tree
+abbrev pub MachineIsComplete : Type 0
+MachineIsComplete = (ts : List Marked) (a : Expr) → Reads 0 0 ts [] a
+    → (n : State) × (Moves (want []) false ts n false []) × (finished n ≡ Some a)

@@ -1,5 +1,5 @@
 //! What is proved of the grammar, each law on a call that does nothing.
-ghost use Rattle.hv_grammar.specs.Laws.{ElementsKeepTokens, ExpressionsHaveOneTree, ExpressionsKeepTokens};
+ghost use Rattle.hv_grammar.specs.Laws.{ElementsKeepTokens, ExpressionsHaveOneTree, ExpressionsKeepTokens, MachineIsComplete, MachineIsSound};
 
 /// Does nothing. Its contract says that a tree has exactly the tokens that it was read from.
 pub fn keeps_tokens()
@@ -10,4 +10,10 @@ pub fn keeps_tokens()
 /// Does nothing. Its contract says that no tokens are two expressions.
 pub fn has_one_tree()
     ensures { ExpressionsHaveOneTree }
+{}
+
+/// Does nothing. Its contract says that the parsing machine reads exactly the expressions of the grammar.
+pub fn reads_expressions()
+    ensures sound { MachineIsSound }
+    ensures complete { MachineIsComplete }
 {}

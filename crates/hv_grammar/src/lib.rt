@@ -4,4 +4,4 @@
 
 mod laws;
 
-pub use laws::{has_one_tree, keeps_tokens};
+pub use laws::{has_one_tree, keeps_tokens, reads_expressions};
