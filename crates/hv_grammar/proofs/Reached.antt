@@ -11,9 +11,9 @@ use Rattle.hv_ctree.specs.declared.tree.words.Step.{Step as StepSign}
 use Rattle.hv_ctree.specs.declared.tree.words.StructOrUnion.{StructOrUnion}
 use Rattle.hv_ctree.specs.declared.tree.words.UnaryOperator.{UnaryOperator}
 use Rattle.hv_ctree.specs.tree.Expressions.{Expr, Arguments, TypeName, Specifiers, no_specifiers, then_specifier, Specifier, MayTag, Members, no_members, Declarator, MayDeclarator, no_declarator, some_declarator, Declarators, no_declarators, Enumerators, no_enumerators, Core, nothing, named, group, Suffixes, no_suffixes, then_suffix, Suffix, Parameters as ParameterList, no_parameters, Pointers, no_pointers, then_pointer, Qualifiers}
-use Rattle.hv_grammar.specs.Symbols.{Symbol, keyword, name, sign, Role, inside, operator, Marked, at, quiet, counted, BeginsAt, left_paren, right_paren, left_bracket, left_brace, comma_sign, colon, equal_sign, binary_sign, level, unary_sign, assignment_sign, selector_sign, step_sign, compound_word}
-use Rattle.hv_grammar.specs.Expressions.{Words as WordKind, all_words, type_words, Naming, with_name, without_name, has_type, stars, braced, has_part, Reads, r_higher, ReadsArguments, ReadsTypeName, ReadsSpecifiers, r_specifier, r_specifiers, ReadsSpecifier, ReadsTag, ReadsMembers, ReadsDeclarator, ReadsDeclarators, ReadsEnumerators, ReadsPointers, ReadsQualifiers, ReadsDirect, ReadsParameters}
-use Rattle.hv_grammar.specs.machine.Frames.{Owner, of_type_name, of_parameter, of_member, Mode, only_named, only_abstract, either, Frame, Parenthesis, AfterSizeof, Subscript, Callee, Calling, Prefix, Unary, Sizeof, SizeofType, CastType, Cast, Binary, Then, Else, Assign, Comma, Specified, Body, Listing, Valued, Owned, OwnedMembers, Group, Length, Parameters, hole, hole_of, made, weigh, depth, within, At, Want, Have, Selecting, Words, AfterCompound, AfterTag, AfterEnum, AfterEnumTag, MemberStart, EnumeratorStart, AfterEnumerator, Pointing, Opened, Direct, Bracket, ParametersStart, ParameterNext, AfterEllipsis, State}
+use Rattle.hv_grammar.specs.Symbols.{Symbol, keyword, name, sign, Role, operator, Marked, at, quiet, counted, BeginsAt, left_paren, right_paren, left_bracket, left_brace, comma_sign, colon, equal_sign, binary_sign, level, unary_sign, assignment_sign, selector_sign, step_sign, compound_word}
+use Rattle.hv_grammar.specs.Expressions.{Words as WordKind, all_words, type_words, Naming, has_type, stars, braced, has_part, Reads, r_higher, ReadsArguments, ReadsTypeName, ReadsSpecifiers, r_specifier, r_specifiers, ReadsSpecifier, ReadsTag, ReadsMembers, ReadsDeclarator, ReadsDeclarators, ReadsEnumerators, ReadsPointers, ReadsQualifiers, ReadsDirect, ReadsParameters}
+use Rattle.hv_grammar.specs.machine.Frames.{Owner, of_type_name, of_parameter, of_member, Mode, only_named, only_abstract, either, Frame, Parenthesis, AfterSizeof, Subscript, Callee, Calling, Prefix, Unary, Sizeof, SizeofType, CastType, Cast, Binary, Then, Else, Assign, Comma, Specified, Body, Listing, Valued, Owned, OwnedMembers, Group, Length, Parameters, hole, hole_of, made, depth, within, At, Want, Have, Selecting, Words, AfterCompound, AfterTag, AfterEnum, AfterEnumTag, MemberStart, EnumeratorStart, AfterEnumerator, Pointing, Opened, Direct, Bracket, ParametersStart, ParameterNext, AfterEllipsis, State}
 use Rattle.hv_grammar.specs.machine.Steps.{Taken, begins, may_lack_name}
 use Rattle.hv_grammar.proofs.Arriving.{level-most}
 use Rattle.hv_grammar.proofs.ArrivingDeclarators.{fits_mode}

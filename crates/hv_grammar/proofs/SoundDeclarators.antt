@@ -1,20 +1,18 @@
 -- What the machine makes of a token of a declarator, the grammar derives.
-use Rattle.std.proofs.Common.{◌≡◌, ℕ, suc, ◌≤◌, Bool, true, false, cond, List, [], ◌∷◌, refl, arith, Option, Some, None}
+use Rattle.std.proofs.Common.{◌≡◌, ℕ, suc, Bool, true, false, cond, List, ◌∷◌, refl, arith, Option, Some, None}
 use Rattle.hv_base.specs.declared.place.Place.{Place}
 use Rattle.hv_base.specs.declared.keyword.Keyword.{Keyword}
 use Rattle.hv_base.specs.declared.keyword.Keyword.TheVariants as keywords
 use Rattle.hv_base.specs.declared.punct.Punct.{Punct}
 use Rattle.hv_base.specs.declared.punct.Punct.TheVariants as puncts
-use Rattle.hv_ctree.specs.declared.tree.words.StructOrUnion.{StructOrUnion}
 use Rattle.hv_ctree.specs.declared.tree.words.TypeQualifier.{TypeQualifier}
 use Rattle.hv_ctree.specs.declared.tree.words.TypeQualifier.TheVariants.{Const, Restrict}
-use Rattle.hv_ctree.specs.tree.Expressions.{sizeof_type, TypeName, type_name, Specifiers, no_specifiers, MayTag, Members, then_member, members_of, Declarators, no_declarators, then_declarator, Declarator, declarator, MayDeclarator, no_declarator, some_declarator, Core, nothing, named, group, Suffixes, no_suffixes, then_suffix, unsized, function, unprototyped, parameter_types, Parameters as ParameterList, no_parameters, then_parameter, Parameter, parameter, Pointers, no_pointers, then_pointer, Qualifiers, no_qualifiers, then_qualifier}
-use Rattle.hv_grammar.specs.Symbols.{Symbol, keyword, name, marked, number, text, sign, Role, inside, Marked, at, quiet, BeginsAt, at_first, left_paren, right_paren, left_bracket, right_bracket, comma_sign, semicolon, qualifier_word}
-use Rattle.hv_grammar.specs.Expressions.{type_words, all_words, Naming, with_name, without_name, stars, has_part, r_sizeof_type, r_type_name, ReadsSpecifiers, ReadsMembers, r_member_first, r_members, ReadsMember, r_members_of, ReadsDeclarators, r_declarator_first, r_declarators, ReadsDeclarator, r_declarator, ReadsPointers, r_no_pointers, r_pointer, ReadsQualifiers, r_no_qualifiers, r_qualifiers, ReadsDirect, r_core, r_suffix, r_nothing, r_named, r_group, r_unsized, r_function, r_unprototyped, r_fixed, r_variadic, ReadsParameters, r_parameter, r_parameters, ReadsParameter, r_parameter_named, r_parameter_abstract, r_no_declarator, r_abstract, ReadsAbstract}
-use Rattle.hv_grammar.specs.machine.Frames.{Owner, of_type_name, of_parameter, of_member, Mode, only_named, only_abstract, either, Frame, SizeofType, CastType, Cast, Body, Owned, OwnedMembers, Group, Length, Parameters, hole_of, depth, within, State, Want, Have, Pointing, Opened, Direct, Bracket, ParametersStart, ParameterNext, AfterEllipsis}
-use Rattle.hv_grammar.specs.machine.Steps.{state, want, Taken, plainly, operand_at, qualifier_of, may_name, may_lack_name, begins, qualified, after_parameter, after_member, after_type_name, after_group, ended, only_pointers, pointing_qualifier, pointing_keyword, opened_at, pointing_sign, step_pointing, opened_sign, step_opened, step_direct, bracket_keyword, step_bracket, no_parameters_at, step_parameters, ellipsis_at, step_ellipsis, first_word}
-use Rattle.hv_grammar.proofs.ArrivingDeclarators.{fits_mode}
-use Rattle.hv_grammar.proofs.Reached.{words_of, Site, in_cast, in_sizeof, in_parameters, in_body, Hosts, host_type, host_parameter, host_members, host_group, none_yet, MembersFrom, no_member_yet, members_read, DeclaratorsFrom, no_declarator_yet, declarators_read, ParametersFrom, no_parameter_yet, parameters_read, DirectFrom, b_sizeof_type, b_cast_type, b_cast, b_body, b_owned, b_members, b_group, b_length, b_parameters, Stacked, more, Holds, Wants, w_plainly, MemberAt, PointingAt, OpenedAt, MiddleAt, WholeAt, BracketAt, NextAt, next_at, Leads, once, leads_by, branches, fits_most, Specs, part_suffix, part_named, part_group, MayRead, m_none, m_some, EndedAt}
+use Rattle.hv_ctree.specs.tree.Expressions.{sizeof_type, type_name, Specifiers, no_specifiers, Members, then_member, members_of, Declarators, then_declarator, Declarator, declarator, MayDeclarator, some_declarator, Core, nothing, named, group, Suffixes, no_suffixes, then_suffix, unsized, function, unprototyped, parameter_types, Parameters as ParameterList, no_parameters, then_parameter, Parameter, parameter, Pointers, no_pointers, then_pointer, Qualifiers, no_qualifiers, then_qualifier}
+use Rattle.hv_grammar.specs.Symbols.{Symbol, keyword, name, sign, Role, inside, Marked, at, quiet, BeginsAt, at_first, left_paren, right_paren, left_bracket, right_bracket, comma_sign, semicolon, qualifier_word}
+use Rattle.hv_grammar.specs.Expressions.{all_words, with_name, without_name, stars, r_sizeof_type, r_type_name, ReadsSpecifiers, ReadsMembers, r_member_first, r_members, ReadsMember, r_members_of, ReadsDeclarators, r_declarator_first, r_declarators, ReadsDeclarator, r_declarator, ReadsPointers, r_no_pointers, r_pointer, r_no_qualifiers, r_qualifiers, r_core, r_suffix, r_nothing, r_named, r_group, r_unsized, r_function, r_unprototyped, r_fixed, r_variadic, ReadsParameters, r_parameter, r_parameters, ReadsParameter, r_parameter_named, r_parameter_abstract, r_no_declarator, r_abstract, ReadsAbstract}
+use Rattle.hv_grammar.specs.machine.Frames.{of_type_name, of_parameter, Mode, only_named, only_abstract, either, Frame, SizeofType, CastType, Cast, Body, Owned, OwnedMembers, Group, Length, Parameters, depth, within, Direct, Bracket}
+use Rattle.hv_grammar.specs.machine.Steps.{state, Taken, plainly, operand_at, qualifier_of, may_name, may_lack_name, begins, qualified, after_parameter, after_member, after_type_name, after_group, ended, only_pointers, pointing_qualifier, pointing_keyword, opened_at, pointing_sign, step_pointing, opened_sign, step_opened, step_direct, bracket_keyword, step_bracket, no_parameters_at, step_parameters, ellipsis_at, step_ellipsis, first_word}
+use Rattle.hv_grammar.proofs.Reached.{in_parameters, in_body, Hosts, host_type, host_members, host_group, none_yet, MembersFrom, no_member_yet, members_read, DeclaratorsFrom, no_declarator_yet, declarators_read, ParametersFrom, no_parameter_yet, parameters_read, DirectFrom, b_sizeof_type, b_cast_type, b_cast, b_body, b_owned, b_members, b_group, b_length, b_parameters, Stacked, more, Holds, Wants, w_plainly, MemberAt, PointingAt, OpenedAt, MiddleAt, WholeAt, BracketAt, NextAt, next_at, Leads, once, leads_by, branches, fits_most, Specs, part_suffix, part_named, part_group, MayRead, m_none, m_some, EndedAt}
 use Rattle.hv_grammar.proofs.SoundExpressions.{Wanting, pushed_read, operand_read}
 use Rattle.hv_grammar.proofs.SoundSpecifiers.{specifier_read}
 

@@ -15,13 +15,13 @@ use Rattle.hv_ctree.specs.declared.tree.words.Step.{Step as StepSign}
 use Rattle.hv_ctree.specs.declared.tree.words.Step.TheVariants.{Increment, Decrement}
 use Rattle.hv_ctree.specs.declared.tree.words.UnaryOperator.{UnaryOperator}
 use Rattle.hv_ctree.specs.declared.tree.words.UnaryOperator.TheVariants.{Address, Indirection, Plus, Minus, Complement, Not}
-use Rattle.hv_ctree.specs.tree.Expressions.{Expr, parenthesized, subscript, call, postfix, Arguments, no_arguments, then_argument, Specifiers, then_specifier, MayTag, Enumerators, then_enumerator, Enumerator, valued, Specifier, of_type, enumeration, listed, then_suffix, sized, place_of}
-use Rattle.hv_grammar.specs.Symbols.{Symbol, keyword, name, marked, number, text, sign, hole as hole_symbol, foreign, Role, inside, operator, Marked, at, quiet, counted, left_paren, right_paren, left_bracket, right_bracket, right_brace, comma_sign, colon, equal_sign, binary_sign, level, unary_sign, assignment_sign, selector_sign, step_sign}
-use Rattle.hv_grammar.specs.Expressions.{braced, stars, has_type, ReadsSpecifier, has_part, Reads, r_identifier, r_constant, r_string, r_parenthesized, r_subscript, r_call_none, r_call, r_member, r_postfix, r_prefix, r_unary, r_sizeof, r_cast, r_binary, r_conditional, r_assign, r_comma, r_argument, r_arguments, r_type, r_enumeration, r_listed, ReadsEnumerators, r_enumerator, r_enumerators, ReadsEnumerator, r_valued, r_no_comma, r_suffix, r_sized}
-use Rattle.hv_grammar.specs.machine.Frames.{Frame, Parenthesis, AfterSizeof, Subscript, Callee, Calling, Prefix, Unary, Sizeof, SizeofType, CastType, Cast, Binary, Then, Else, Assign, Comma, Specified, Body, Listing, Valued, Owned, OwnedMembers, Group, Length, Parameters, hole, hole_of, made, weigh, depth, within, completes, plug, At, Want, Have, Selecting, State, Infix, by_operator, by_assignment, by_question, by_comma, by_bracket, by_parenthesis, left, reach, makes, begun, weigh_at}
-use Rattle.hv_grammar.specs.machine.Steps.{state, want, have, Taken, loud, Reduced, reduced, reduce, operand_at, want_sign, want_keyword, paren_at, pushed, close_call, infix_at, infix_of_level, goes_on, argument_at, comma_at, close_at, bracket_at, brace_at, colon_at, after, after_postfix, have_sign, step_have, step_selecting, specified, listed_at, end_at, finished_at}
+use Rattle.hv_ctree.specs.tree.Expressions.{Expr, parenthesized, subscript, call, postfix, no_arguments, then_argument, then_specifier, MayTag, Enumerators, then_enumerator, Enumerator, valued, Specifier, of_type, enumeration, listed, then_suffix, sized, place_of}
+use Rattle.hv_grammar.specs.Symbols.{Symbol, keyword, name, number, text, sign, Role, Marked, at, quiet, counted, left_paren, right_paren, left_bracket, right_bracket, right_brace, comma_sign, colon, binary_sign, unary_sign, assignment_sign, selector_sign, step_sign}
+use Rattle.hv_grammar.specs.Expressions.{braced, stars, has_type, ReadsSpecifier, Reads, r_identifier, r_constant, r_string, r_parenthesized, r_subscript, r_call_none, r_call, r_member, r_postfix, r_prefix, r_unary, r_sizeof, r_cast, r_binary, r_conditional, r_assign, r_comma, r_argument, r_arguments, r_type, r_enumeration, r_listed, ReadsEnumerators, r_enumerator, r_enumerators, ReadsEnumerator, r_valued, r_no_comma, r_suffix, r_sized}
+use Rattle.hv_grammar.specs.machine.Frames.{Frame, Parenthesis, Subscript, Callee, Calling, Prefix, Unary, Sizeof, Cast, Binary, Then, Else, Assign, Comma, Specified, Listing, Valued, Length, hole, hole_of, made, weigh, depth, within, completes, plug, At, Have, Selecting, Infix, by_operator, by_assignment, by_question, by_comma, by_bracket, by_parenthesis, left, reach, makes, begun, weigh_at}
+use Rattle.hv_grammar.specs.machine.Steps.{state, want, have, Taken, loud, Reduced, reduced, reduce, operand_at, want_sign, want_keyword, paren_at, pushed, close_call, infix_at, infix_of_level, goes_on, argument_at, comma_at, close_at, bracket_at, brace_at, colon_at, after, after_postfix, have_sign, step_have, step_selecting, specified, end_at, finished_at}
 use Rattle.hv_grammar.proofs.Arriving.{level-most}
-use Rattle.hv_grammar.proofs.Reached.{Inside, IsSpecified, is_specified, EnumeratorsFrom, no_enumerator_yet, enumerators_read, Began, b_parenthesis, b_subscript, b_callee, b_calling, b_prefix, b_unary, b_sizeof, b_cast, b_binary, b_then, b_else, b_assign, b_comma, b_specified, b_listing, b_valued, b_length, Stacked, empty, more, Holds, Wants, WantsAt, w_plainly, w_counts, w_quietly, Selects, WholeAt, EnumeratorAt, is_listing, WordsAt, words_of, ReadAt, Leads, once, leads_by, branches, fits_most, lowered, one_more, TypeAt, part_suffix}
+use Rattle.hv_grammar.proofs.Reached.{Inside, EnumeratorsFrom, no_enumerator_yet, enumerators_read, Began, b_parenthesis, b_subscript, b_callee, b_calling, b_prefix, b_unary, b_sizeof, b_cast, b_binary, b_then, b_else, b_assign, b_comma, b_specified, b_listing, b_valued, b_length, Stacked, empty, more, Holds, Wants, w_plainly, w_counts, w_quietly, Selects, WholeAt, EnumeratorAt, is_listing, WordsAt, words_of, ReadAt, Leads, once, leads_by, branches, lowered, one_more, TypeAt, part_suffix}
 
 abbrev pub Wanting : List Frame → Bool → List Marked → List Marked → Type 0
 Wanting stack x ws us = Wants stack ws us

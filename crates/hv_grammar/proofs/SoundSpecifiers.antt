@@ -1,19 +1,17 @@
 -- What the machine makes of a token of specifiers, the grammar derives.
-use Rattle.std.proofs.Common.{◌≡◌, ℕ, suc, Bool, true, false, cond, List, [], ◌∷◌, refl, sym, Option, Some, None, subst}
+use Rattle.std.proofs.Common.{◌≡◌, ℕ, Bool, true, false, List, ◌∷◌, sym, Option, Some, subst}
 use Rattle.hv_base.specs.declared.place.Place.{Place}
 use Rattle.hv_base.specs.declared.keyword.Keyword.{Keyword}
 use Rattle.hv_base.specs.declared.keyword.Keyword.TheVariants as keywords
 use Rattle.hv_ctree.specs.declared.tree.words.StorageClass.{StorageClass}
 use Rattle.hv_ctree.specs.declared.tree.words.StorageClass.TheVariants as storages
-use Rattle.hv_ctree.specs.declared.tree.words.StructOrUnion.{StructOrUnion}
-use Rattle.hv_ctree.specs.declared.tree.words.StructOrUnion.TheVariants.{Struct, Union}
 use Rattle.hv_ctree.specs.declared.tree.words.TypeQualifier.TheVariants.{Const, Restrict}
 use Rattle.hv_ctree.specs.tree.Expressions.{Specifiers, then_specifier, Specifier, storage, of_type, qualifier, inline, word, typedef_name, TypeWord, void_word, char_word, short_word, int_word, long_word, signed_word, unsigned_word, bool_word}
-use Rattle.hv_grammar.specs.Symbols.{Symbol, keyword, marked, Role, Marked, at, compound_word, storage_word, qualifier_word, type_word}
+use Rattle.hv_grammar.specs.Symbols.{Symbol, keyword, marked, Role, Marked, at, storage_word, type_word}
 use Rattle.hv_grammar.specs.Expressions.{has_type, ReadsSpecifier, r_storage, r_inline, r_qualifier, r_type, r_word, r_typedef_name}
-use Rattle.hv_grammar.specs.machine.Frames.{Owner, of_type_name, of_parameter, of_member, Frame, Specified, depth, within, Words, AfterCompound, AfterEnum}
-use Rattle.hv_grammar.specs.machine.Steps.{state, Taken, plainly, word_of, may_stand, worded, marked_word, keyword_word, specifier_at}
-use Rattle.hv_grammar.proofs.Reached.{words_of, is_specified, b_specified, more, Specs, Follows, Leads, once, branches, fits_most, one_more}
+use Rattle.hv_grammar.specs.machine.Frames.{Owner, of_type_name, of_parameter, of_member, Frame, depth, within, Words}
+use Rattle.hv_grammar.specs.machine.Steps.{state, Taken, plainly, may_stand, worded, marked_word, keyword_word, specifier_at}
+use Rattle.hv_grammar.proofs.Reached.{words_of, is_specified, b_specified, more, Specs, Leads, once, branches, fits_most, one_more}
 
 -- what a specifier that is one word is where it stands
 abbrev Stands : Owner → Place → Symbol → Specifier → Type 0
@@ -90,11 +88,11 @@ marked_read : (B : Bool → List Marked → List Marked → Type 0) (o : Owner) 
 marked_read B o p xs stack q n other f g =
     branches B q (marked n) (has_type xs) other (plainly stack (state stack (Words o p (then_specifier xs (of_type q (typedef_name q n))))) (depth stack)) (λ e. g)
     (λ e. once (λ ws us k. let t = f (within stack) (depth stack) ws us k in one_more t.site t.stacked t.specifiers (first us e)))
-    where
-      first : (us : List Marked) → has_type xs ≡ false
-          → ReadsSpecifier (within stack) (depth stack) (words_of o) (has_type xs) (at (within stack) (depth stack) q (marked n) ∷ us) us (of_type q (typedef_name q n))
-      first us e = subst (λ (b : Bool). ReadsSpecifier (within stack) (depth stack) (words_of o) b (at (within stack) (depth stack) q (marked n) ∷ us) us (of_type q (typedef_name q n)))
-          (sym e) (r_type (r_typedef_name q n))
+  where
+    first : (us : List Marked) → has_type xs ≡ false
+        → ReadsSpecifier (within stack) (depth stack) (words_of o) (has_type xs) (at (within stack) (depth stack) q (marked n) ∷ us) us (of_type q (typedef_name q n))
+    first us e = subst (λ (b : Bool). ReadsSpecifier (within stack) (depth stack) (words_of o) b (at (within stack) (depth stack) q (marked n) ∷ us) us (of_type q (typedef_name q n)))
+        (sym e) (r_type (r_typedef_name q n))
 
 -- a token that may be one more specifier
 pub specifier_read : (B : Bool → List Marked → List Marked → Type 0) (o : Owner) (p : Place) (xs : Specifiers) (stack : List Frame) (q : Place) (s : Symbol) (other : Option Taken)

@@ -1,6 +1,6 @@
 -- What the machine has read, the grammar derives: what it accepts is an expression with this tree
 -- and these marks.
-use Rattle.std.proofs.Common.{◌≡◌, ℕ, suc, ◌≤◌, Bool, true, false, cond, List, [], ◌∷◌, refl, arith, Option, Some, None, subst}
+use Rattle.std.proofs.Common.{◌≡◌, ℕ, suc, ◌≤◌, Bool, true, false, List, [], ◌∷◌, refl, arith, Option, Some, None, subst}
 use Rattle.std.proofs.lemmas.Bool.Decides.{nat_tests}
 use Rattle.std.specs.Prelude.{nat_le}
 use Rattle.hv_base.specs.declared.place.Place.{Place}
@@ -8,13 +8,13 @@ use Rattle.hv_base.specs.declared.keyword.Keyword.TheVariants as keywords
 use Rattle.hv_base.specs.declared.punct.Punct.{Punct}
 use Rattle.hv_base.specs.declared.punct.Punct.TheVariants as puncts
 use Rattle.hv_ctree.specs.declared.tree.words.StructOrUnion.{StructOrUnion}
-use Rattle.hv_ctree.specs.tree.Expressions.{Expr, Specifiers, no_specifiers, then_specifier, Specifier, of_type, compound, enumeration, defined, mentioned, MayTag, no_tag, tag, Members, no_members, then_member, no_declarators, listed, listed_before, Enumerators, no_enumerators, then_enumerator, plain, no_pointers}
-use Rattle.hv_grammar.specs.Symbols.{Symbol, keyword, name, sign, Token, Role, inside, operator, Marked, at, left_brace, right_brace, comma_sign, equal_sign, compound_word, at_first}
+use Rattle.hv_ctree.specs.tree.Expressions.{Expr, Specifiers, no_specifiers, then_specifier, Specifier, of_type, compound, enumeration, defined, mentioned, MayTag, no_members, then_member, no_declarators, listed, listed_before, no_enumerators, then_enumerator, plain, no_pointers}
+use Rattle.hv_grammar.specs.Symbols.{Symbol, keyword, name, sign, Role, inside, operator, Marked, at, left_brace, right_brace, comma_sign, compound_word, at_first}
 use Rattle.hv_grammar.specs.Expressions.{Reads, braced, r_type, r_compound, r_enumeration, r_defined, r_mentioned, ReadsTag, r_no_tag, r_tag, r_listed, r_listed_before, r_plain, r_last_comma, has_type, ReadsSpecifier, r_no_pointers}
-use Rattle.hv_grammar.specs.machine.Frames.{Owner, of_type_name, of_parameter, of_member, Mode, only_named, only_abstract, either, Frame, Parenthesis, AfterSizeof, Sizeof, SizeofType, CastType, Specified, Body, Listing, Valued, Owned, OwnedMembers, hole_of, depth, within, At, Want, Have, Selecting, Words, AfterCompound, AfterTag, AfterEnum, AfterEnumTag, MemberStart, EnumeratorStart, AfterEnumerator, Pointing, Opened, Direct, Bracket, ParametersStart, ParameterNext, AfterEllipsis, State}
-use Rattle.hv_grammar.specs.machine.Steps.{state, want, Taken, lately, operand_at, cast_at, first_word, step_want, words_ended, step_words, step_pointing, ended_word, step_compound, step_tag, specified, listed_at, body_ended, step_member, step_enum, step_enum_tag, listing_ended, step_enumerator, enumerator_named, step_enumerator_name, step_at, step, finished}
+use Rattle.hv_grammar.specs.machine.Frames.{Owner, of_type_name, of_parameter, of_member, only_named, only_abstract, either, Frame, Parenthesis, AfterSizeof, Sizeof, SizeofType, CastType, Specified, Body, Listing, Owned, OwnedMembers, hole_of, depth, within, At, Want, Have, Selecting, Words, AfterCompound, AfterTag, AfterEnum, AfterEnumTag, MemberStart, EnumeratorStart, AfterEnumerator, Pointing, Opened, Direct, Bracket, ParametersStart, ParameterNext, AfterEllipsis, State}
+use Rattle.hv_grammar.specs.machine.Steps.{want, Taken, lately, operand_at, cast_at, first_word, step_want, words_ended, step_words, step_pointing, ended_word, step_compound, step_tag, body_ended, step_member, step_enum, step_enum_tag, listing_ended, step_enumerator, enumerator_named, step_enumerator_name, step_at, finished}
 use Rattle.hv_grammar.specs.machine.Moves.{Takes, taken, taken_to_count, Moves, stays, takes}
-use Rattle.hv_grammar.proofs.Reached.{words_of, in_cast, in_sizeof, in_body, host_type, host_parameter, host_members, IsSpecified, is_specified, IsListing, is_listing, none_yet, MembersFrom, no_member_yet, members_read, EnumeratorsFrom, no_enumerator_yet, enumerators_read, no_declarator_yet, b_parenthesis, b_sizeof, b_sizeof_type, b_cast_type, b_specified, b_body, b_listing, b_valued, b_owned, b_members, Stacked, empty, more, Wants, WantsAt, w_plainly, w_counts, w_quietly, WordsAt, Specs, Follows, MemberAt, EnumeratorAt, PointingAt, ReadAt, ReadState, Led, Leads, once, leads_by, branches, fits_most, one_more, specs_of, TypeAt}
+use Rattle.hv_grammar.proofs.Reached.{words_of, in_cast, in_sizeof, in_body, host_type, host_parameter, host_members, is_listing, none_yet, no_member_yet, members_read, no_enumerator_yet, enumerators_read, no_declarator_yet, b_parenthesis, b_sizeof, b_sizeof_type, b_cast_type, b_specified, b_body, b_listing, b_valued, b_owned, b_members, Stacked, empty, more, Wants, WantsAt, w_plainly, w_counts, w_quietly, WordsAt, Specs, Follows, MemberAt, EnumeratorAt, ReadAt, ReadState, Led, Leads, once, leads_by, branches, fits_most, one_more, specs_of, TypeAt}
 use Rattle.hv_grammar.proofs.SoundExpressions.{Wanting, operand_read, having_read, selecting_read, specified_read, enumerated, listed_whole, finished_read}
 use Rattle.hv_grammar.proofs.SoundSpecifiers.{specifier_read}
 use Rattle.hv_grammar.proofs.SoundDeclarators.{Pointed, pointing_read, opened_read, direct_read, bracket_read, parameters_start_read, next_read, after_ellipsis_read}
@@ -276,11 +276,11 @@ counting_token B t us r e h = subst (λ (o : Role). B (at o t.depth t.token.plac
 takes_read : (m : State) (x : Bool) (t : Marked) (n : State) (y : Bool) (ws us : List Marked) → ReadState m x ws (t ∷ us) → Takes m x t n y → ReadState n y ws us
 takes_read m x t n _ ws us h (taken sized e f) =
     let g : Led (ReadAt m.stack m.at) t.token.place t.token.symbol (record { state = n; depth = t.depth; role = t.role; late = x; sized = sized }) =
-        subst (λ (o : Option Taken). Leads (ReadAt m.stack m.at) t.token.place t.token.symbol o) f (step_at_read m.stack m.at t.token.place t.token.symbol) in
+    subst (λ (o : Option Taken). Leads (ReadAt m.stack m.at) t.token.place t.token.symbol o) f (step_at_read m.stack m.at t.token.place t.token.symbol) in
     g.plainly ws us (plain_token (λ (vs : List Marked). ReadState m x ws vs) t us e h)
 takes_read m x t n _ ws us h (taken_to_count r e f) =
     let g : Led (ReadAt m.stack m.at) t.token.place t.token.symbol (record { state = n; depth = t.depth; role = inside; late = x; sized = true }) =
-        subst (λ (o : Option Taken). Leads (ReadAt m.stack m.at) t.token.place t.token.symbol o) f (step_at_read m.stack m.at t.token.place t.token.symbol) in
+    subst (λ (o : Option Taken). Leads (ReadAt m.stack m.at) t.token.place t.token.symbol o) f (step_at_read m.stack m.at t.token.place t.token.symbol) in
     g.counting refl ws us (counting_token (λ (vs : List Marked). ReadState m x ws vs) t us r e h)
 
 pub moves_read : (ws : List Marked) {m n : State} {x y : Bool} {ts us : List Marked} → ReadState m x ws ts → Moves m x ts n y us → ReadState n y ws us
