@@ -210,7 +210,7 @@ apart i (f ∷ stack) k a h =
     ] refl
 
 -- what completes the frame ends it before a token of a level that is low enough
-passed : (p : ℕ) (f : Frame) (stack : List Frame) (k : ℕ) (a : Expr) → completes f ≡ true → p ≤ made f → reduce p (f ∷ stack) k a ≡ reduce p stack (made f) (plug f a)
+pub passed : (p : ℕ) (f : Frame) (stack : List Frame) (k : ℕ) (a : Expr) → completes f ≡ true → p ≤ made f → reduce p (f ∷ stack) k a ≡ reduce p stack (made f) (plug f a)
 passed p f stack k a c h = let e : nat_le p (made f) ≡ true = grind (arith, nat_tests) in rw (c, e) refl
 
 -- the machine has read an expression of the level, but for what ends after it

@@ -12,3 +12,6 @@ pub mod SoundExpressions
 pub mod SoundSpecifiers
 pub mod SoundDeclarators
 pub mod Soundness
+pub mod Completion
+pub mod Pending
+pub mod Verdict

@@ -26,6 +26,11 @@ words_of of_type_name = type_words
 words_of of_parameter = all_words
 words_of of_member = type_words
 
+-- whether a `(` directly after `sizeof` is what was read last
+abbrev pub is_sized : List Frame → Bool
+is_sized (AfterSizeof q ∷ Sizeof p ∷ stack) = true
+is_sized _ = false
+
 -- the specifiers of the owner stand directly in these frames
 pub data Site : Owner → List Frame → Type 0 where
   in_cast : {p : Place} {st : List Frame} → Site of_type_name (CastType p ∷ st)
@@ -47,7 +52,9 @@ pub data IsSpecified : List Frame → Type 0 where
 pub data IsListing : List Frame → Type 0 where
   is_listing : {p : Place} {t : MayTag} {es : Enumerators} {st : List Frame} → IsListing (Listing p t es ∷ st)
 
+-- the frame may stand directly in these; a `(` directly after `sizeof` is no frame yet
 abbrev pub Inside : Frame → List Frame → Type 0
+Inside (AfterSizeof p) st = ⊥
 Inside (Specified o p xs) st = Site o st
 Inside (Body p k t ms) st = IsSpecified st
 Inside (Listing p t es) st = IsSpecified st

@@ -14,7 +14,7 @@ use Rattle.hv_grammar.specs.Expressions.{Reads, braced, r_type, r_compound, r_en
 use Rattle.hv_grammar.specs.machine.Frames.{Owner, of_type_name, of_parameter, of_member, only_named, only_abstract, either, Frame, Parenthesis, AfterSizeof, Sizeof, SizeofType, CastType, Specified, Body, Listing, Owned, OwnedMembers, hole_of, depth, within, At, Want, Have, Selecting, Words, AfterCompound, AfterTag, AfterEnum, AfterEnumTag, MemberStart, EnumeratorStart, AfterEnumerator, Pointing, Opened, Direct, Bracket, ParametersStart, ParameterNext, AfterEllipsis, State}
 use Rattle.hv_grammar.specs.machine.Steps.{want, Taken, lately, operand_at, cast_at, first_word, step_want, words_ended, step_words, step_pointing, ended_word, step_compound, step_tag, body_ended, step_member, step_enum, step_enum_tag, listing_ended, step_enumerator, enumerator_named, step_enumerator_name, step_at, finished}
 use Rattle.hv_grammar.specs.machine.Moves.{Takes, taken, taken_to_count, Moves, stays, takes}
-use Rattle.hv_grammar.proofs.Reached.{words_of, in_cast, in_sizeof, in_body, host_type, host_parameter, host_members, is_listing, none_yet, no_member_yet, members_read, no_enumerator_yet, enumerators_read, no_declarator_yet, b_parenthesis, b_sizeof, b_sizeof_type, b_cast_type, b_specified, b_body, b_listing, b_valued, b_owned, b_members, Stacked, empty, more, Wants, WantsAt, w_plainly, w_counts, w_quietly, WordsAt, Specs, Follows, MemberAt, EnumeratorAt, ReadAt, ReadState, Led, Leads, once, leads_by, branches, fits_most, one_more, specs_of, TypeAt}
+use Rattle.hv_grammar.proofs.Reached.{is_sized, words_of, in_cast, in_sizeof, in_body, host_type, host_parameter, host_members, is_listing, none_yet, no_member_yet, members_read, no_enumerator_yet, enumerators_read, no_declarator_yet, b_parenthesis, b_sizeof, b_sizeof_type, b_cast_type, b_specified, b_body, b_listing, b_valued, b_owned, b_members, Stacked, empty, more, Wants, WantsAt, w_plainly, w_counts, w_quietly, WordsAt, Specs, Follows, MemberAt, EnumeratorAt, ReadAt, ReadState, Led, Leads, once, leads_by, branches, fits_most, one_more, specs_of, TypeAt}
 use Rattle.hv_grammar.proofs.SoundExpressions.{Wanting, operand_read, having_read, selecting_read, specified_read, enumerated, listed_whole, finished_read}
 use Rattle.hv_grammar.proofs.SoundSpecifiers.{specifier_read}
 use Rattle.hv_grammar.proofs.SoundDeclarators.{Pointed, pointing_read, opened_read, direct_read, bracket_read, parameters_start_read, next_read, after_ellipsis_read}
@@ -23,10 +23,6 @@ use Rattle.hv_grammar.proofs.SoundDeclarators.{Pointed, pointing_read, opened_re
 
 abbrev WantingAt : List Frame → Bool → List Marked → List Marked → Type 0
 WantingAt stack x ws us = WantsAt stack x ws us
-
-abbrev is_sized : List Frame → Bool
-is_sized (AfterSizeof q ∷ Sizeof p ∷ stack) = true
-is_sized _ = false
 
 plain_wants : (stack : List Frame) {x : Bool} {ws us : List Marked} → is_sized stack ≡ false → WantsAt stack x ws us → Wants stack ws us
 plain_wants stack e (w_plainly h) = h

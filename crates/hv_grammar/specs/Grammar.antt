@@ -6,8 +6,10 @@ use Rattle.hv_base.specs.declared.token.CTok.{CTok}
 use Rattle.hv_base.specs.declared.token.CTok.TheVariants.{Keyword, Name, Int, Char, Str, Punct}
 use Rattle.hv_base.specs.declared.why.Why.{Why}
 use Rattle.hv_ctree.specs.declared.tree.words.Constant.TheVariants.{Integer, Character}
+use Rattle.hv_ctree.specs.tree.Expressions.{Expr}
 use Rattle.hv_ctree.specs.tree.Statements.{Skeleton, Program}
 use Rattle.hv_grammar.specs.Symbols.{Symbol, keyword, name, marked, number, text, sign, foreign, Token, token_at, Marked}
+use Rattle.hv_grammar.specs.Expressions.{Reads}
 use Rattle.hv_grammar.specs.Elements.{Standing, ReadsElement}
 use Rattle.hv_grammar.specs.Programs.{ReadsExternals}
 use Rattle.hv_grammar.specs.Scopes.{IsMarked}
@@ -58,6 +60,22 @@ pub record DerivesElement (l : Limits) (s : Standing) (ts : List Token) (k : Ske
 -- the first refusal of an element's own tokens
 abbrev pub RefusesElement : Limits → Standing → List Token → ℕ → Why → Type 0
 RefusesElement l s ts i why = Refuses l (λ t. t.token) (WholeElement s) ts i why
+
+-- the tokens are read whole as an expression (6.5)
+pub record WholeExpression (ts : List Marked) : Type 0 where
+  pub tree : Expr
+  pub reads : Reads 0 0 ts [] tree
+
+-- tokens derive this expression
+pub record DerivesExpression (l : Limits) (ts : List Token) (a : Expr) : Type 0 where
+  pub first : List Marked
+  pub tokens : map (λ t. t.token) first ≡ ts
+  pub reads : Reads 0 0 first [] a
+  pub limits : KeepsLimits l 0 first
+
+-- the first refusal of an expression's tokens
+abbrev pub RefusesExpression : Limits → List Token → ℕ → Why → Type 0
+RefusesExpression l ts i why = Refuses l (λ t. t.token) WholeExpression ts i why
 
 -- a token without the mark of a typedef name, as preprocessing gives it
 abbrev pub plain_symbol : Symbol → Symbol

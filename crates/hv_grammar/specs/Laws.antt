@@ -2,13 +2,16 @@
 use Rattle.std.specs.Prelude.{◌≡◌, ℕ, Bool, false, List, [], map, Some}
 use Rattle.hv_ctree.specs.tree.Expressions.{Expr}
 use Rattle.hv_ctree.specs.tree.Statements.{Skeleton}
-use Rattle.hv_grammar.specs.Symbols.{Marked}
+use Rattle.hv_grammar.specs.Symbols.{Token, Marked}
 use Rattle.hv_grammar.specs.Expressions.{Reads}
 use Rattle.hv_grammar.specs.Elements.{Standing, ReadsElement}
+use Rattle.hv_grammar.specs.Refusal.{Limits}
+use Rattle.hv_grammar.specs.Grammar.{DerivesExpression, RefusesExpression}
 use Rattle.hv_grammar.specs.Tokens.{tokens_of, own_tokens}
 use Rattle.hv_grammar.specs.machine.Frames.{State}
 use Rattle.hv_grammar.specs.machine.Steps.{want, finished}
 use Rattle.hv_grammar.specs.machine.Moves.{Moves}
+use Rattle.hv_grammar.specs.machine.Answers.{Answer, Accepted, Refused, answer}
 
 -- the tokens that an expression was read from are those of its tree
 abbrev pub ExpressionsKeepTokens : Type 0
@@ -35,3 +38,17 @@ MachineIsSound = (ts : List Marked) (n : State) (y : Bool) (a : Expr)
 abbrev pub MachineIsComplete : Type 0
 MachineIsComplete = (ts : List Marked) (a : Expr) → Reads 0 0 ts [] a
     → (n : State) × (Moves (want []) false ts n false []) × (finished n ≡ Some a)
+
+-- what an answer says of the tokens: the tree that they derive, or their first refusal
+abbrev pub Says : Limits → List Token → Answer → Type 0
+Says l ts (Accepted a) = DerivesExpression l ts a
+Says l ts (Refused i why) = RefusesExpression l ts i why
+
+-- what the machine answers to tokens is so, within any limits
+abbrev pub AnswersAreRight : Type 0
+AnswersAreRight = (l : Limits) (ts : List Token) → Says l ts (answer l (want []) 0 0 ts)
+
+-- a tree that tokens derive is the machine's answer, so they derive no other and aren't refused
+abbrev pub DerivedIsAnswered : Type 0
+DerivedIsAnswered = (l : Limits) (ts : List Token) (a : Expr) → DerivesExpression l ts a
+    → answer l (want []) 0 0 ts ≡ Accepted a

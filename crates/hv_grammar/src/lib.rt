@@ -4,4 +4,4 @@
 
 mod laws;
 
-pub use laws::{has_one_tree, keeps_tokens, reads_expressions};
+pub use laws::{answers_rightly, has_one_tree, keeps_tokens, reads_expressions};

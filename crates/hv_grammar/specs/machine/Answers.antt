@@ -8,6 +8,7 @@ use Rattle.hv_grammar.specs.Refusal.{Limits, operators_with}
 use Rattle.hv_grammar.specs.machine.Frames.{State}
 use Rattle.hv_grammar.specs.machine.Steps.{Taken, step, finished}
 
+-- the tree of the tokens, or the index of the first refusal and its cause
 pub data Answer : Type 0 where
   Accepted : Expr → Answer
   Refused : ℕ → Why → Answer
@@ -21,10 +22,14 @@ operators_before n true = suc n
 abbrev pub operators_after : ℕ → Taken → ℕ
 operators_after n k = operators_with (operators_before n k.late) k.role
 
--- whether the token keeps the limits
+-- whether the token keeps the limits, and the `(` before it, where that counts
 abbrev pub keeps : Limits → ℕ → Taken → Bool
-keeps l n k = cond (nat_le k.depth l.brackets) (nat_le (operators_after n k) l.operators) false
+keeps l n k =
+    cond (nat_le k.depth l.brackets)
+    (cond (nat_le (operators_before n k.late) l.operators)
+    (nat_le (operators_after n k) l.operators) false) false
 
+-- the answer where the tokens end, after so many
 abbrev pub at_end : ℕ → Option Expr → Answer
 at_end i None = Refused i Syntax
 at_end i (Some a) = Accepted a
