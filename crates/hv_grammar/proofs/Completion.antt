@@ -6,13 +6,13 @@ use Rattle.hv_base.specs.declared.keyword.Keyword.TheVariants as keywords
 use Rattle.hv_base.specs.declared.punct.Punct.TheVariants as puncts
 use Rattle.hv_ctree.specs.declared.tree.words.StructOrUnion.{StructOrUnion}
 use Rattle.hv_ctree.specs.tree.Expressions.{Expr, identifier, parenthesized, subscript, call, member, sizeof_type, cast, conditional, no_arguments, then_argument, type_name, Specifiers, no_specifiers, then_specifier, of_type, word, int_word, compound, enumeration, defined, MayTag, no_tag, tag, Members, no_members, then_member, MemberDeclaration, members_of, Declarators, no_declarators, then_declarator, listed, Enumerators, no_enumerators, then_enumerator, plain, valued, Declarator, declarator, MayDeclarator, no_declarator, some_declarator, Core, nothing, named, group, Suffixes, no_suffixes, then_suffix, sized, unsized, function, unprototyped, parameter_types, then_parameter, parameter, Pointers, no_pointers, no_qualifiers, place_of}
-use Rattle.hv_grammar.specs.Symbols.{Symbol, keyword, name, sign, Token, token_at, Role, inside, Marked, at, left_paren, right_paren, left_bracket, right_bracket, left_brace, right_brace, colon, semicolon, level}
+use Rattle.hv_grammar.specs.Symbols.{Symbol, keyword, name, token_at, Role, inside, Marked, at, right_paren, left_bracket, right_bracket, left_brace, right_brace, colon, semicolon, level}
 use Rattle.hv_grammar.specs.Expressions.{stars, braced}
 use Rattle.hv_grammar.specs.machine.Frames.{Owner, of_type_name, of_parameter, of_member, Mode, only_named, only_abstract, either, Frame, Parenthesis, AfterSizeof, Subscript, Callee, Calling, Prefix, Unary, Sizeof, SizeofType, CastType, Cast, Binary, Then, Else, Assign, Comma, Specified, Body, Listing, Valued, Owned, OwnedMembers, Group, Length, Parameters, hole, hole_of, made, depth, within, plug, At, Want, Have, Selecting, Words, AfterCompound, AfterTag, AfterEnum, AfterEnumTag, MemberStart, EnumeratorStart, AfterEnumerator, Pointing, Opened, Direct, Bracket, ParametersStart, ParameterNext, AfterEllipsis, State}
 use Rattle.hv_grammar.specs.machine.Steps.{state, want, have, took, quiet, Reduced, reduced, reduce, close_at, bracket_at, brace_at, colon_at, after, step_want, begins, after_parameter, after_member, after_type_name, step, after_end, finished}
-use Rattle.hv_grammar.specs.machine.Moves.{Takes, taken, Moves, stays, takes}
+use Rattle.hv_grammar.specs.machine.Moves.{Takes, Moves, stays, takes}
 use Rattle.hv_grammar.proofs.Arriving.{level-most, steps, passed}
-use Rattle.hv_grammar.proofs.Reached.{is_sized, Site, in_cast, in_sizeof, in_parameters, in_body, Hosts, host_type, host_parameter, host_members, host_group, IsSpecified, is_specified, IsListing, is_listing, Inside, Stacked, empty, more, fits_most, WantsAt, w_plainly, w_counts, w_quietly, NextAt, next_at, ReadAt, ReadState}
+use Rattle.hv_grammar.proofs.Reached.{is_sized, Site, in_cast, in_sizeof, in_parameters, in_body, Hosts, host_type, host_parameter, host_members, host_group, IsSpecified, is_specified, IsListing, is_listing, Inside, Stacked, empty, more, fits_most, WantsAt, w_plainly, w_quietly, NextAt, next_at, ReadAt, ReadState}
 
 -- the place of the tokens that are made up here, and their name
 abbrev somewhere : Place

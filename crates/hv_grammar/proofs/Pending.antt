@@ -1,6 +1,6 @@
 -- What the machine says of a `(` directly after `sizeof`: after it, and nowhere else, it is pending
 -- whether it counts, and only there a token says that it did.
-use Rattle.std.proofs.Common.{◌≡◌, ℕ, Bool, true, false, cond, List, [], ◌∷◌, refl, Option, Some, None}
+use Rattle.std.proofs.Common.{◌≡◌, ℕ, Bool, true, false, cond, List, ◌∷◌, refl, Option, Some, None}
 use Rattle.std.specs.Prelude.{nat_le}
 use Rattle.hv_base.specs.declared.place.Place.{Place}
 use Rattle.hv_base.specs.declared.keyword.Keyword.{Keyword}
@@ -9,11 +9,11 @@ use Rattle.hv_base.specs.declared.punct.Punct.{Punct}
 use Rattle.hv_base.specs.declared.punct.Punct.TheVariants as puncts
 use Rattle.hv_ctree.specs.declared.tree.words.Selector.{Selector}
 use Rattle.hv_ctree.specs.declared.tree.words.StructOrUnion.{StructOrUnion}
-use Rattle.hv_ctree.specs.tree.Expressions.{Expr, Specifiers, no_specifiers, Specifier, MayTag, then_member, Enumerators, then_enumerator, Declarator, MayDeclarator, no_declarator, some_declarator, Core, Suffixes, Pointers, no_pointers, then_pointer, Qualifiers}
+use Rattle.hv_ctree.specs.tree.Expressions.{Expr, Specifiers, no_specifiers, Specifier, then_member, then_enumerator, Declarator, MayDeclarator, some_declarator, Core, Suffixes, Pointers, no_pointers, Qualifiers}
 use Rattle.hv_grammar.specs.Symbols.{Symbol, keyword, name, marked, number, text, sign, Role, inside}
 use Rattle.hv_grammar.specs.Expressions.{has_type}
 use Rattle.hv_grammar.specs.machine.Frames.{Owner, of_type_name, of_parameter, of_member, Mode, only_named, only_abstract, either, Frame, Parenthesis, AfterSizeof, Subscript, Callee, Calling, Sizeof, SizeofType, CastType, Then, Specified, Body, Listing, Valued, Owned, OwnedMembers, Group, Length, Parameters, hole_of, At, Want, Have, Selecting, Words, AfterCompound, AfterTag, AfterEnum, AfterEnumTag, MemberStart, EnumeratorStart, AfterEnumerator, Pointing, Opened, Direct, Bracket, ParametersStart, ParameterNext, AfterEllipsis, State, Infix, by_operator, by_assignment, by_question, by_comma, by_bracket, by_parenthesis, left, reach, makes, begun}
-use Rattle.hv_grammar.specs.machine.Steps.{Taken, Reduced, reduce, lately, infix_of, word_of, may_stand, worded, marked_word, keyword_word, specifier_at, first_word, pushed, paren_at, close_call, want_sign, want_keyword, operand_at, cast_at, step_want, infix_at, infix_of_level, goes_by, specified, argument_at, close_at, bracket_at, brace_at, colon_at, have_sign, step_have, step_selecting, qualifier_of, may_name, may_lack_name, qualified, after_parameter, after_member, after_type_name, after_group, ended, only_pointers, pointing_qualifier, pointing_keyword, opened_at, pointing_sign, step_pointing, opened_sign, step_opened, step_direct, bracket_keyword, step_bracket, no_parameters_at, step_parameters, ellipsis_at, step_ellipsis, words_ended, step_words, ended_word, step_compound, step_tag, body_ended, step_member, step_enum, step_enum_tag, listing_ended, step_enumerator, enumerator_named, step_enumerator_name, step_at}
+use Rattle.hv_grammar.specs.machine.Steps.{Taken, Reduced, reduce, lately, infix_of, word_of, may_stand, worded, keyword_word, specifier_at, first_word, paren_at, close_call, want_sign, want_keyword, operand_at, step_want, infix_at, infix_of_level, goes_by, specified, argument_at, close_at, bracket_at, brace_at, colon_at, have_sign, step_have, step_selecting, qualifier_of, may_name, may_lack_name, qualified, after_parameter, after_member, after_type_name, after_group, ended, only_pointers, pointing_qualifier, pointing_keyword, opened_at, pointing_sign, step_pointing, opened_sign, step_opened, step_direct, step_bracket, no_parameters_at, step_parameters, ellipsis_at, step_ellipsis, words_ended, step_words, ended_word, step_compound, step_tag, body_ended, step_enum, step_enum_tag, listing_ended, step_enumerator, enumerator_named, step_enumerator_name, step_at}
 use Rattle.hv_grammar.proofs.Reached.{is_sized}
 
 abbrev pub pending_at : List Frame → At → Bool

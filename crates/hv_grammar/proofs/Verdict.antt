@@ -6,8 +6,7 @@ use Rattle.std.proofs.lemmas.Bool.Decides.{nat_tests}
 use Rattle.std.specs.Prelude.{nat_le}
 use Rattle.hv_base.specs.declared.why.Why.TheVariants.{Syntax, TooDeep}
 use Rattle.hv_ctree.specs.tree.Expressions.{Expr}
-use Rattle.hv_grammar.specs.Symbols.{Token, Role, outside, inside, operator, Marked}
-use Rattle.hv_grammar.specs.Expressions.{Reads}
+use Rattle.hv_grammar.specs.Symbols.{Token, Role, inside, operator, Marked}
 use Rattle.hv_grammar.specs.Refusal.{Limits, operators_with, KeepsLimits, Derives, Begins, BeginsWithin, Refuses, wrong, deep, early}
 use Rattle.hv_grammar.specs.Grammar.{WholeExpression, DerivesExpression}
 use Rattle.hv_grammar.specs.Laws.{Says}
