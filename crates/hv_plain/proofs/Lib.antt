@@ -1,5 +1,8 @@
 pub mod ByteNumerals
 mod ControllingRows
+pub mod EpisodeFaces
+mod EpisodeRows
+pub mod EpisodeStates
 pub mod OptionVariables
 pub mod Places
 mod Rows

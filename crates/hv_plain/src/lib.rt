@@ -3,11 +3,13 @@
 #![tactic(auto)]
 
 mod controlling;
+mod episode;
 mod gathering;
 mod numeral;
 mod small;
 
 pub use controlling::{Binary, Operand, Symbol, Unary};
+pub use episode::{RunEnd, face_decides};
 pub use gathering::builtin_header;
 pub use numeral::byte_of;
 pub use small::small_run;
