@@ -157,7 +157,7 @@ Records-fills before after a b c r x y h =
     ap is_some (r x y) ∙ ⊎_elim (λ (s : is_same_pair a b x y ≡ true). ap is_some (cond-true (is_same_pair a b x y) (Some c) (known before x y) s))
     (λ (s : is_same_pair a b x y ≡ false). ap is_some (cond-false (is_same_pair a b x y) (Some c) (known before x y) s) ∙ h) (cases_Bool (is_same_pair a b x y))
 
-Records-answers : (k : Connective) (ds : List Decision) (before after : Results) (a b c : Cond) → Records before after a b c → AreAnswers k ds before → IsAnswer k ds a b c → AreAnswers k ds after
+pub Records-answers : (k : Connective) (ds : List Decision) (before after : Results) (a b c : Cond) → Records before after a b c → AreAnswers k ds before → IsAnswer k ds a b c → AreAnswers k ds after
 Records-answers k ds before after a b c r answers answer =
     record {
       each = λ x y z kn. ⊎_elim (λ (s : is_same_pair a b x y ≡ true).

@@ -4,6 +4,7 @@ pub mod Combining
 pub mod Complementing
 pub mod Counts
 pub mod Lifts
+pub mod Meeting
 pub mod OrderLemmas
 pub mod Reached
 pub mod Searching

@@ -103,6 +103,11 @@ abbrev pub AreDisjoint : Diagram → Cond → Cond → Type 0
 AreDisjoint diagram a b = (values : List Bool) → length values ≡ diagram.variables
     → holds diagram a values ≡ true → holds diagram b values ≡ false
 
+-- some assignment satisfies both
+abbrev pub Meet : Diagram → Cond → Cond → Type 0
+Meet diagram a b = (values : List Bool) × (length values ≡ diagram.variables)
+    × (holds diagram a values ≡ true) × (holds diagram b values ≡ true)
+
 -- one variable stands before another in an order
 pub record IsEarlier (order : List ℕ) (i j : ℕ) : Type 0 where
   pub place : ℕ

@@ -41,7 +41,7 @@ impl Connective {
     }
 
     /// The answer where it is seen at once; else both conditions are branches.
-    fn shortcut(self, a: Cond, b: Cond) -> Option<Cond>
+    pub(crate) fn shortcut(self, a: Cond, b: Cond) -> Option<Cond>
         ensures answer { IfSome result
             (λ c. (ds : List Decision) → a.index < top ds → b.index < top ds
             → IsAnswer self ds a b c) }

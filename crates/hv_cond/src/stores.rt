@@ -3,11 +3,12 @@ ghost use Rattle.std.specs.Prelude.{◌≡◌, ◌↔◌, ℕ, ◌+◌, ◌*◌,
 ghost use Rattle.std.specs.List.{range_with_len};
 ghost use Rattle.hv_cond.specs.declared.conditions.Node.TheVariants.{Falsity};
 ghost use Rattle.hv_cond.specs.Order.{order_from};
-ghost use Rattle.hv_cond.specs.Diagram.{Describes, Diagram, IsLeast, IsNever, IsNode, Keeps, SameMeaning, holds, node, nodes, size, value_of};
+ghost use Rattle.hv_cond.specs.Diagram.{AreDisjoint, Describes, Diagram, IsLeast, IsNever, IsNode, Keeps, Meet, SameMeaning, holds, node, nodes, size, value_of};
 
 use crate::complements::{Complements, complement};
 use crate::conditions::{Cond, Node};
 use crate::connectives::{Connective, combine};
+use crate::meetings::meet;
 use crate::nodes::{Decision, Nodes};
 use crate::orders::Order;
 use crate::paths;
@@ -156,6 +157,20 @@ impl Store {
     {
         self.complements.trim(self.nodes.answers_kept());
         complement(&mut self.nodes, &mut self.complements, a)
+    }
+
+    /// Whether some assignment satisfies both conditions. No branch is made, and the walk through
+    /// pairs of branches ends at the first path that both allow; pairs that never hold together are
+    /// kept as those of `and` are.
+    pub fn meets(&mut self, a: Cond, b: Cond) -> Result<bool, AllocError>
+        requires first { IsNode self.old a }
+        requires second { IsNode self.old b }
+        ensures unchanged { self.new ≡ self.old }
+        ensures together { IfOk result (λ met. IsTrue met ↔ Meet self.old a b) }
+        ensures apart { IfOk result (λ met. (met ≡ false) ↔ AreDisjoint self.old a b) }
+    {
+        self.conjunctions.trim(self.nodes.answers_kept());
+        meet(&self.nodes, &mut self.conjunctions, a, b)
     }
 
     /// Whether a condition holds where the variables have these values.

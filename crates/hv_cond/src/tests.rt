@@ -134,8 +134,10 @@ fn connectives_of_tables(rt: HostRuntime) -> Result<(), Fail> {
         let a = build(&mut store, 0, table)?;
         let b = build(&mut store, 0, other)?;
         assert_eq!(rt; store.same(a, b), table == other);
+        assert_eq!(rt; store.meets(a, b)?, table & other != 0);
         let both = store.and(a, b)?;
         assert_eq!(rt; table_of(&store, both), table & other);
+        assert_eq!(rt; store.meets(b, a)?, table & other != 0);
         let either = store.or(a, b)?;
         assert_eq!(rt; table_of(&store, either), table | other);
         let neither = store.not(either)?;
