@@ -8,11 +8,16 @@ abbrev pub text_of_lines : List (List ℕ) → List ℕ
 text_of_lines [] = []
 text_of_lines (line ∷ lines) = line ++ ascii.newline ∷ text_of_lines lines
 
--- lines between the guard of a header, which is `__HC_` and the header's name in capitals, and its end
+-- lines between the guard of a header, which is `__HC_` and the header's name in capitals, and its
+-- end
 abbrev pub guarded : (guard : List ℕ) → List (List ℕ) → List ℕ
 guarded guard lines =
-    text_of_lines ((codes "#ifndef " ++ guard) ∷ (codes "#define " ++ guard) ∷ (lines ++ codes "#endif" ∷ []))
+    text_of_lines (
+    (codes "#ifndef " ++ guard) ∷
+    (codes "#define " ++ guard) ∷
+    (lines ++ codes "#endif" ∷ []))
 
+-- common definitions (7.17)
 -- SAME: headers
 abbrev pub stddef : List ℕ
 stddef = guarded (codes "__HC_STDDEF") (
@@ -20,6 +25,7 @@ stddef = guarded (codes "__HC_STDDEF") (
     codes "typedef long ptrdiff_t;" ∷
     codes "#define NULL ((void *)0)" ∷ [])
 
+-- input and output (7.19)
 abbrev pub stdio : List ℕ
 stdio = guarded (codes "__HC_STDIO") (
     codes "#include <stddef.h>" ∷
@@ -29,6 +35,7 @@ stdio = guarded (codes "__HC_STDIO") (
     codes "int puts(const char *);" ∷
     codes "int printf(const char *, ...);" ∷ [])
 
+-- general utilities (7.20)
 abbrev pub stdlib : List ℕ
 stdlib = guarded (codes "__HC_STDLIB") (
     codes "#include <stddef.h>" ∷
@@ -39,12 +46,14 @@ stdlib = guarded (codes "__HC_STDLIB") (
     codes "void free(void *);" ∷
     codes "void exit(int);" ∷ [])
 
+-- string handling (7.21)
 abbrev pub string : List ℕ
 string = guarded (codes "__HC_STRING") (
     codes "#include <stddef.h>" ∷
     codes "void *memcpy(void *, const void *, size_t);" ∷
     codes "void *memset(void *, int, size_t);" ∷ [])
 
+-- sizes of integer types (7.10)
 abbrev pub limits : List ℕ
 limits = guarded (codes "__HC_LIMITS") (
     codes "#define CHAR_BIT 8" ∷
@@ -60,12 +69,14 @@ limits = guarded (codes "__HC_LIMITS") (
     codes "#define LONG_MAX 9223372036854775807L" ∷
     codes "#define ULONG_MAX 18446744073709551615UL" ∷ [])
 
+-- boolean type and values (7.16)
 abbrev pub stdbool : List ℕ
 stdbool = guarded (codes "__HC_STDBOOL") (
     codes "#define bool _Bool" ∷
     codes "#define true 1" ∷
     codes "#define false 0" ∷ [])
 
+-- integer types (7.18)
 abbrev pub stdint : List ℕ
 stdint = guarded (codes "__HC_STDINT") (
     codes "typedef signed char int8_t;" ∷

@@ -16,9 +16,12 @@ use Rattle.hv_toks.specs.Splices.{spliced, offsets}
 abbrev pub cut_step : (cut_rest : LinePrefix → Bool → List ℕ → List ℕ → Cutting) → (file : ℕ)
     → LinePrefix → (space : Bool) → (text places : List ℕ) → Prefix → Cutting
 cut_step cut_rest file line space text places End = tokens []
-cut_step cut_rest file line space text places WhiteSpace = cut_rest line true (drop 1 text) (drop 1 places)
-cut_step cut_rest file line space text places Newline = cut_rest Start false (drop 1 text) (drop 1 places)
-cut_step cut_rest file line space text places (Comment n) = cut_rest line true (drop n text) (drop n places)
+cut_step cut_rest file line space text places WhiteSpace =
+    cut_rest line true (drop 1 text) (drop 1 places)
+cut_step cut_rest file line space text places Newline =
+    cut_rest Start false (drop 1 text) (drop 1 places)
+cut_step cut_rest file line space text places (Comment n) =
+    cut_rest line true (drop n text) (drop n places)
 cut_step cut_rest file line space text places OpenComment = open_comment (slice_index places 0)
 cut_step cut_rest file line space text places (Token m) =
     prepend (token file line space m.kind (take m.len text) (take m.len places))
@@ -46,6 +49,7 @@ header_of text = record {
   name = take (length text - 2) (drop 1 text);
 }
 
+-- whether a preprocessing token is a header name (6.4.7)
 abbrev pub is_header_name : PpKind → Bool
 is_header_name Identifier = false
 is_header_name Number = false
@@ -55,8 +59,8 @@ is_header_name HeaderName = true
 is_header_name Punctuator = false
 is_header_name Other = false
 
--- whether a token is the header name of an `#include` line, the only place where one is cut (6.4). A name with
--- a byte that isn't printable mentions nothing
+-- whether a token is the header name of an `#include` line, the only place where one is cut (6.4).
+-- A name with a byte that isn't printable mentions nothing
 abbrev pub is_mention : PpTok → Bool
 is_mention tok = is_header_name tok.kind && list_all ascii.is_printable tok.text
 

@@ -20,9 +20,9 @@ joined folder name = folder ++ ascii.slash ∷ name
 abbrev pub beside : (file name : List ℕ) → List ℕ
 beside file name = elim (folder_of file) [ Some folder ↦ joined folder name | None ↦ name ]
 
--- the names under which a header is looked for, in order, when the file of this name mentions it: where it begins
--- with `/` the header's name itself; else, if it is quoted, the name within the file's folder, and then the name
--- within each include folder. After them come the built-in headers
+-- the names under which a header is looked for, in order, when the file of this name mentions it:
+-- where it begins with `/` the header's name itself; else, if it is quoted, the name within the
+-- file's folder, and then the name within each include folder. After them come the built-in headers
 abbrev pub candidates : (dirs : List (List ℕ)) → (file : List ℕ) → Header → List (List ℕ)
 candidates dirs file header =
     cond (starts_with nat_eq header.name (ascii.slash ∷ [])) (header.name ∷ [])
