@@ -22,81 +22,117 @@ fits_mode without_name md = may_lack_name md
 
 -- the machine is after the middle of a declarator and what follows it, perhaps after nothing at all; the
 -- declarator begins at the place, and these tokens stand after it
-pub data DirectLike : State → Mode → Place → Pointers → Core → Suffixes → List Frame → List Marked → Type 0 where
-  is_bare : {n : State} {md : Mode} {p y : Place} {ps : Pointers} {st : List Frame} {us : List Marked} → Pointed n md y ps st → (has_pointer ps ≡ true → Bare n md y ps st)
-      → may_lack_name md ≡ true → ((q : Place) → BeginsAt q us → begins y ps q ≡ p) → only_pointers y ps ≡ only_pointers p ps
+pub data DirectLike : State → Mode → Place → Pointers → Core → Suffixes → List Frame → List Marked
+    → Type 0 where
+  is_bare : {n : State} {md : Mode} {p y : Place} {ps : Pointers} {st : List Frame}
+      {us : List Marked} → Pointed n md y ps st → (has_pointer ps ≡ true → Bare n md y ps st)
+      → may_lack_name md ≡ true → ((q : Place) → BeginsAt q us → begins y ps q ≡ p)
+      → only_pointers y ps ≡ only_pointers p ps
       → DirectLike n md p ps nothing no_suffixes st us
-  is_middle : {md : Mode} {p : Place} {ps : Pointers} {c : Core} {ss : Suffixes} {st : List Frame} {us : List Marked}
+  is_middle : {md : Mode} {p : Place} {ps : Pointers} {c : Core} {ss : Suffixes} {st : List Frame}
+      {us : List Marked}
       → DirectLike (state st (Direct md p ps c ss)) md p ps c ss st us
 
 -- after a `(` that begins what follows a declarator
-pub record AfterOpen (n : State) (md : Mode) (p : Place) (ps : Pointers) (c : Core) (ss : Suffixes) (b : Place) (st : List Frame) : Type 0 where
-  pub closes : (q : Place) → step_at n.stack n.at q right_paren ≡ plainly st (state st (Direct md p ps c (then_suffix ss (unprototyped b)))) (suc (stars ps (depth st)))
-  pub spec : (q : Place) → Spec n of_parameter q no_specifiers (Parameters md p ps c ss b q no_parameters ∷ st) q
+pub record AfterOpen (n : State) (md : Mode) (p : Place) (ps : Pointers) (c : Core) (ss : Suffixes)
+    (b : Place) (st : List Frame) : Type 0 where
+  pub closes : (q : Place) → step_at n.stack n.at q right_paren
+      ≡ plainly st (state st (Direct md p ps c (then_suffix ss (unprototyped b))))
+      (suc (stars ps (depth st)))
+  pub spec : (q : Place) → Spec n of_parameter q no_specifiers (Parameters md p ps c ss b q
+      no_parameters ∷ st) q
 
-after_open_direct : (md : Mode) (p : Place) (ps : Pointers) (c : Core) (ss : Suffixes) (b : Place) (st : List Frame) → AfterOpen (state st (ParametersStart md p ps c ss b)) md p ps c ss b st
-after_open_direct md p ps c ss b st = record { closes = λ q. refl; spec = λ q. record { other = λ s. _; reads = λ s n. refl } }
+after_open_direct : (md : Mode) (p : Place) (ps : Pointers) (c : Core) (ss : Suffixes) (b : Place)
+    (st : List Frame) → AfterOpen (state st (ParametersStart md p ps c ss b)) md p ps c ss b st
+after_open_direct md p ps c ss b st =
+    record { closes = λ q. refl; spec = λ q. record { other = λ s. _; reads = λ s n. refl } }
 
-after_open_bare : (md : Mode) (p : Place) (ps : Pointers) (b : Place) (st : List Frame) → AfterOpen (state st (Opened md p ps b)) md p ps nothing no_suffixes b st
-after_open_bare md p ps b st = record { closes = λ q. refl; spec = λ q. record { other = λ s. _; reads = λ s n. refl } }
+after_open_bare : (md : Mode) (p : Place) (ps : Pointers) (b : Place) (st : List Frame)
+    → AfterOpen (state st (Opened md p ps b)) md p ps nothing no_suffixes b st
+after_open_bare md p ps b st =
+    record { closes = λ q. refl; spec = λ q. record { other = λ s. _; reads = λ s n. refl } }
 
 -- a `(` that begins what follows a declarator
-pub record Opening (m : State) (r : Role) (d : ℕ) (b : Place) (md : Mode) (p : Place) (ps : Pointers) (c : Core) (ss : Suffixes) (st : List Frame) : Type 0 where
+pub record Opening (m : State) (r : Role) (d : ℕ) (b : Place) (md : Mode) (p : Place)
+    (ps : Pointers) (c : Core) (ss : Suffixes) (st : List Frame) : Type 0 where
   pub there : State
   pub takes_it : Takes m false (at r d b left_paren) there false
   pub after_it : AfterOpen there md p ps c ss b st
 
-opened_bare : (md : Mode) (p : Place) (ps : Pointers) (b : Place) (st : List Frame) → may_lack_name md ≡ true
-    → step_pointing md p ps st b left_paren ≡ plainly st (state st (Opened md (begins p ps b) ps b)) (suc (stars ps (depth st)))
+opened_bare : (md : Mode) (p : Place) (ps : Pointers) (b : Place) (st : List Frame)
+    → may_lack_name md ≡ true
+    → step_pointing md p ps st b left_paren
+    ≡ plainly st (state st (Opened md (begins p ps b) ps b)) (suc (stars ps (depth st)))
 opened_bare only_named p ps b st l = cc
 opened_bare only_abstract p ps b st l = refl
 opened_bare either p ps b st l = refl
 
-pub opening : {n : State} {md : Mode} {p : Place} {ps : Pointers} {c : Core} {ss : Suffixes} {st : List Frame} {r : Role} {d : ℕ} {b : Place} {us : List Marked}
-    → DirectLike n md p ps c ss st (at r (suc d) b left_paren ∷ us) → r ≡ within st → d ≡ stars ps (depth st) → Opening n r (suc d) b md p ps c ss st
-opening {md = md} {p = p} {ps = ps} {st = st} {b = b} (is_bare {y = y} h g l f a) same deep = record {
-  there = state st (Opened md p ps b);
-  takes_it = steps_as b left_paren (h.reads b left_paren refl ∙ (opened_bare md y ps b st l
-      ∙ ap (λ z. plainly st (state st (Opened md z ps b)) (suc (stars ps (depth st)))) (f b (at_first _ _)))) same (ap suc deep);
-  after_it = after_open_bare md p ps b st;
-}
-opening {md = md} {p = p} {ps = ps} {c = c} {ss = ss} {st = st} {b = b} is_middle same deep = record {
-  there = state st (ParametersStart md p ps c ss b);
-  takes_it = steps_as b left_paren refl same (ap suc deep);
-  after_it = after_open_direct md p ps c ss b st;
-}
+pub opening : {n : State} {md : Mode} {p : Place} {ps : Pointers} {c : Core} {ss : Suffixes}
+    {st : List Frame} {r : Role} {d : ℕ} {b : Place} {us : List Marked}
+    → DirectLike n md p ps c ss st (at r (suc d) b left_paren ∷ us) → r ≡ within st
+    → d ≡ stars ps (depth st) → Opening n r (suc d) b md p ps c ss st
+opening {md = md} {p = p} {ps = ps} {st = st} {b = b} (is_bare {y = y} h g l f a) same deep =
+    record {
+      there = state st (Opened md p ps b);
+      takes_it = steps_as b left_paren (h.reads b left_paren refl ∙ (opened_bare md y ps b st l
+          ∙ ap (λ z. plainly st (state st (Opened md z ps b)) (suc (stars ps (depth st))))
+          (f b (at_first _ _)))) same (ap suc deep);
+      after_it = after_open_bare md p ps b st;
+    }
+opening {md = md} {p = p} {ps = ps} {c = c} {ss = ss} {st = st} {b = b} is_middle same deep =
+    record {
+      there = state st (ParametersStart md p ps c ss b);
+      takes_it = steps_as b left_paren refl same (ap suc deep);
+      after_it = after_open_direct md p ps c ss b st;
+    }
 
 -- a `[` that begins what follows a declarator
-bracket_bare : (md : Mode) (p : Place) (ps : Pointers) (b : Place) (st : List Frame) → may_lack_name md ≡ true
-    → step_pointing md p ps st b left_bracket ≡ plainly st (state st (Bracket md (begins p ps b) ps nothing no_suffixes b no_qualifiers)) (suc (stars ps (depth st)))
+bracket_bare : (md : Mode) (p : Place) (ps : Pointers) (b : Place) (st : List Frame)
+    → may_lack_name md ≡ true
+    → step_pointing md p ps st b left_bracket
+    ≡ plainly st (state st (Bracket md (begins p ps b) ps nothing no_suffixes b no_qualifiers))
+    (suc (stars ps (depth st)))
 bracket_bare md p ps b st l = rw l refl
 
-pub bracketed : {n : State} {md : Mode} {p : Place} {ps : Pointers} {c : Core} {ss : Suffixes} {st : List Frame} {r : Role} {d : ℕ} {b : Place} {us : List Marked}
-    → DirectLike n md p ps c ss st (at r (suc d) b left_bracket ∷ us) → r ≡ within st → d ≡ stars ps (depth st)
-    → Takes n false (at r (suc d) b left_bracket) (state st (Bracket md p ps c ss b no_qualifiers)) false
+pub bracketed : {n : State} {md : Mode} {p : Place} {ps : Pointers} {c : Core} {ss : Suffixes}
+    {st : List Frame} {r : Role} {d : ℕ} {b : Place} {us : List Marked}
+    → DirectLike n md p ps c ss st (at r (suc d) b left_bracket ∷ us) → r ≡ within st
+    → d ≡ stars ps (depth st)
+    → Takes n false (at r (suc d) b left_bracket) (state st (Bracket md p ps c ss b no_qualifiers))
+    false
 bracketed {md = md} {p = p} {ps = ps} {st = st} {b = b} (is_bare {y = y} h g l f a) same deep =
     steps_as b left_bracket (h.reads b left_bracket refl ∙ (bracket_bare md y ps b st l
-    ∙ ap (λ z. plainly st (state st (Bracket md z ps nothing no_suffixes b no_qualifiers)) (suc (stars ps (depth st)))) (f b (at_first _ _)))) same (ap suc deep)
+    ∙ ap (λ z. plainly st (state st (Bracket md z ps nothing no_suffixes b no_qualifiers))
+    (suc (stars ps (depth st)))) (f b (at_first _ _)))) same (ap suc deep)
 bracketed {b = b} is_middle same deep = steps_as b left_bracket refl same (ap suc deep)
 
 -- qualifiers after a `[`
-bracket_qualifier : (md : Mode) (p : Place) (ps : Pointers) (c : Core) (ss : Suffixes) (b : Place) (qs : Qualifiers) (st : List Frame) (y : Place) (k : TypeQualifier)
-    → step_at st (Bracket md p ps c ss b qs) y (qualifier_word k) ≡ plainly st (state st (Bracket md p ps c ss b (then_qualifier qs k))) (suc (stars ps (depth st)))
+bracket_qualifier : (md : Mode) (p : Place) (ps : Pointers) (c : Core) (ss : Suffixes) (b : Place)
+    (qs : Qualifiers) (st : List Frame) (y : Place) (k : TypeQualifier)
+    → step_at st (Bracket md p ps c ss b qs) y (qualifier_word k)
+    ≡ plainly st (state st (Bracket md p ps c ss b (then_qualifier qs k)))
+    (suc (stars ps (depth st)))
 bracket_qualifier md p ps c ss b qs st y Const = refl
 bracket_qualifier md p ps c ss b qs st y Restrict = refl
 
-pub arrives_bracket_qualifiers : {r : Role} {d : ℕ} {ts us : List Marked} {qs : Qualifiers} → ReadsQualifiers r d ts us qs
-    → (md : Mode) (p : Place) (ps : Pointers) (c : Core) (ss : Suffixes) (b : Place) (st : List Frame) → r ≡ within st → d ≡ suc (stars ps (depth st))
-    → Moves (state st (Bracket md p ps c ss b no_qualifiers)) false ts (state st (Bracket md p ps c ss b qs)) false us
+pub arrives_bracket_qualifiers : {r : Role} {d : ℕ} {ts us : List Marked} {qs : Qualifiers}
+    → ReadsQualifiers r d ts us qs
+    → (md : Mode) (p : Place) (ps : Pointers) (c : Core) (ss : Suffixes) (b : Place)
+    (st : List Frame) → r ≡ within st → d ≡ suc (stars ps (depth st))
+    → Moves (state st (Bracket md p ps c ss b no_qualifiers)) false ts
+    (state st (Bracket md p ps c ss b qs)) false us
 arrives_bracket_qualifiers r_no_qualifiers md p ps c ss b st same deep = stays
 arrives_bracket_qualifiers (r_qualifiers {qs = qs} y k h) md p ps c ss b st same deep =
-    joined (arrives_bracket_qualifiers h md p ps c ss b st same deep) (one (steps_as y (qualifier_word k) (bracket_qualifier md p ps c ss b qs st y k) same deep))
+    joined (arrives_bracket_qualifiers h md p ps c ss b st same deep)
+    (one (steps_as y (qualifier_word k) (bracket_qualifier md p ps c ss b qs st y k) same deep))
 
 -- a length after a `[`
-pub want_length : (md : Mode) (p : Place) (ps : Pointers) (c : Core) (ss : Suffixes) (b : Place) (qs : Qualifiers) (st : List Frame)
+pub want_length : (md : Mode) (p : Place) (ps : Pointers) (c : Core) (ss : Suffixes) (b : Place)
+    (qs : Qualifiers) (st : List Frame)
     → Entry (state st (Bracket md p ps c ss b qs)) false (Length md p ps c ss b qs ∷ st)
 want_length md p ps c ss b qs st = record { enters = go } where
-  go : (q : Place) (s : Symbol) → begins_operand s ≡ true → step_at st (Bracket md p ps c ss b qs) q s ≡ operand_at (Length md p ps c ss b qs ∷ st) q s
+  go : (q : Place) (s : Symbol) → begins_operand s ≡ true
+      → step_at st (Bracket md p ps c ss b qs) q s ≡ operand_at (Length md p ps c ss b qs ∷ st) q s
   go q (name n) e = refl
   go q (number v) e = refl
   go q (text v) e = refl
@@ -113,86 +149,118 @@ want_length md p ps c ss b qs st = record { enters = go } where
   go q _ e = cc
 
 -- the machine has read the middle of a declarator and what follows it
-pub record DirectAt (m : State) (ts us : List Marked) (md : Mode) (p : Place) (ps : Pointers) (c : Core) (ss : Suffixes) (st : List Frame) : Type 0 where
+pub record DirectAt (m : State) (ts us : List Marked) (md : Mode) (p : Place) (ps : Pointers)
+    (c : Core) (ss : Suffixes) (st : List Frame) : Type 0 where
   pub there : State
   pub moves : Moves m false ts there false us
   pub like : DirectLike there md p ps c ss st us
 
-pub arrives_middle : {m : State} {ts us : List Marked} (md : Mode) (p : Place) (ps : Pointers) (c : Core) (ss : Suffixes) (st : List Frame)
+pub arrives_middle : {m : State} {ts us : List Marked} (md : Mode) (p : Place) (ps : Pointers)
+    (c : Core) (ss : Suffixes) (st : List Frame)
     → Moves m false ts (state st (Direct md p ps c ss)) false us → DirectAt m ts us md p ps c ss st
-arrives_middle md p ps c ss st g = record { there = state st (Direct md p ps c ss); moves = g; like = is_middle }
+arrives_middle md p ps c ss st g =
+    record { there = state st (Direct md p ps c ss); moves = g; like = is_middle }
 
-named_bare : (md : Mode) (p : Place) (ps : Pointers) (q : Place) (n : List ℕ) (st : List Frame) → may_name md ≡ true
-    → step_pointing md p ps st q (name n) ≡ plainly st (state st (Direct md (begins p ps q) ps (named q n) no_suffixes)) (stars ps (depth st))
+named_bare : (md : Mode) (p : Place) (ps : Pointers) (q : Place) (n : List ℕ) (st : List Frame)
+    → may_name md ≡ true
+    → step_pointing md p ps st q (name n)
+    ≡ plainly st (state st (Direct md (begins p ps q) ps (named q n) no_suffixes))
+    (stars ps (depth st))
 named_bare md p ps q n st l = rw l refl
 
-pub arrives_named : {m : State} {md : Mode} {y p : Place} {ps : Pointers} {st : List Frame} (q : Place) (n : List ℕ) {r : Role} {d : ℕ} {us : List Marked}
-    → Pointed m md y ps st → ((z : Place) → BeginsAt z (at r d q (name n) ∷ us) → begins y ps z ≡ p) → may_name md ≡ true → r ≡ within st → d ≡ stars ps (depth st)
+pub arrives_named : {m : State} {md : Mode} {y p : Place} {ps : Pointers} {st : List Frame}
+    (q : Place) (n : List ℕ) {r : Role} {d : ℕ} {us : List Marked}
+    → Pointed m md y ps st → ((z : Place) → BeginsAt z (at r d q (name n) ∷ us) → begins y ps z ≡ p)
+    → may_name md ≡ true → r ≡ within st → d ≡ stars ps (depth st)
     → DirectAt m (at r d q (name n) ∷ us) us md p ps (named q n) no_suffixes st
-arrives_named {md = md} {y = y} {p = p} {ps = ps} {st = st} q n h f l same deep = arrives_middle md p ps (named q n) no_suffixes st
+arrives_named {md = md} {y = y} {p = p} {ps = ps} {st = st} q n h f l same deep =
+    arrives_middle md p ps (named q n) no_suffixes st
     (one (steps_as q (name n) (h.reads q (name n) refl ∙ (named_bare md y ps q n st l
-    ∙ ap (λ z. plainly st (state st (Direct md z ps (named q n) no_suffixes)) (stars ps (depth st))) (f q (at_first _ _)))) same deep))
+    ∙ ap (λ z. plainly st (state st (Direct md z ps (named q n) no_suffixes)) (stars ps (depth st)))
+    (f q (at_first _ _)))) same deep))
 
 -- a `(` that begins a declarator within another
-pub record Grouping (m : State) (r : Role) (d : ℕ) (q : Place) (md : Mode) (p : Place) (ps : Pointers) (st : List Frame) : Type 0 where
+pub record Grouping (m : State) (r : Role) (d : ℕ) (q : Place) (md : Mode) (p : Place)
+    (ps : Pointers) (st : List Frame) : Type 0 where
   pub there : State
   pub takes_it : Takes m false (at r d q left_paren) there false
   pub pointed : Pointed there md q no_pointers (Group md p ps q ∷ st)
 
-opened_pointed : (md : Mode) (p : Place) (ps : Pointers) (b : Place) (st : List Frame) → Pointed (state st (Opened md p ps b)) md b no_pointers (Group md p ps b ∷ st)
+opened_pointed : (md : Mode) (p : Place) (ps : Pointers) (b : Place) (st : List Frame)
+    → Pointed (state st (Opened md p ps b)) md b no_pointers (Group md p ps b ∷ st)
 opened_pointed md p ps b st = record { reads = go } where
-  go : (q : Place) (s : Symbol) → begins_declarator s ≡ true → step_at st (Opened md p ps b) q s ≡ step_pointing md b no_pointers (Group md p ps b ∷ st) q s
+  go : (q : Place) (s : Symbol) → begins_declarator s ≡ true
+      → step_at st (Opened md p ps b) q s
+      ≡ step_pointing md b no_pointers (Group md p ps b ∷ st) q s
   go q (name n) e = refl
   go q (sign puncts.Star) e = refl
   go q (sign puncts.LeftParenthesis) e = refl
   go q (sign puncts.LeftBracket) e = refl
   go q _ e = cc
 
-pub grouping : {m : State} (md : Mode) {y p : Place} {ps : Pointers} {st : List Frame} (q : Place) {r : Role} {d : ℕ} {us : List Marked}
-    → Pointed m md y ps st → ((z : Place) → BeginsAt z (at r (suc d) q left_paren ∷ us) → begins y ps z ≡ p) → r ≡ within st → d ≡ stars ps (depth st)
+pub grouping : {m : State} (md : Mode) {y p : Place} {ps : Pointers} {st : List Frame} (q : Place)
+    {r : Role} {d : ℕ} {us : List Marked}
+    → Pointed m md y ps st → ((z : Place) → BeginsAt z (at r (suc d) q left_paren ∷ us)
+    → begins y ps z ≡ p) → r ≡ within st → d ≡ stars ps (depth st)
     → Grouping m r (suc d) q md p ps st
 grouping only_named {y = y} {p = p} {ps = ps} {st = st} q h f same deep = record {
   there = state (Group only_named p ps q ∷ st) (Pointing only_named q no_pointers);
   takes_it = steps_as q left_paren (h.reads q left_paren refl
-      ∙ ap (λ z. plainly st (state (Group only_named z ps q ∷ st) (Pointing only_named q no_pointers)) (suc (stars ps (depth st)))) (f q (at_first _ _))) same (ap suc deep);
+      ∙ ap (λ z. plainly st (state (Group only_named z ps q ∷ st)
+      (Pointing only_named q no_pointers)) (suc (stars ps (depth st)))) (f q (at_first _ _))) same
+      (ap suc deep);
   pointed = pointed_at only_named q no_pointers (Group only_named p ps q ∷ st);
 }
 grouping only_abstract {y = y} {p = p} {ps = ps} {st = st} q h f same deep = record {
   there = state st (Opened only_abstract p ps q);
   takes_it = steps_as q left_paren (h.reads q left_paren refl
-      ∙ ap (λ z. plainly st (state st (Opened only_abstract z ps q)) (suc (stars ps (depth st)))) (f q (at_first _ _))) same (ap suc deep);
+      ∙ ap (λ z. plainly st (state st (Opened only_abstract z ps q)) (suc (stars ps (depth st))))
+      (f q (at_first _ _))) same (ap suc deep);
   pointed = opened_pointed only_abstract p ps q st;
 }
 grouping either {y = y} {p = p} {ps = ps} {st = st} q h f same deep = record {
   there = state st (Opened either p ps q);
   takes_it = steps_as q left_paren (h.reads q left_paren refl
-      ∙ ap (λ z. plainly st (state st (Opened either z ps q)) (suc (stars ps (depth st)))) (f q (at_first _ _))) same (ap suc deep);
+      ∙ ap (λ z. plainly st (state st (Opened either z ps q)) (suc (stars ps (depth st))))
+      (f q (at_first _ _))) same (ap suc deep);
   pointed = opened_pointed either p ps q st;
 }
 
 -- the machine has read a declarator, or nothing where none must be: a sign that ends it ends it with this tree
-pub record Declared (m : State) (ts us : List Marked) (x : MayDeclarator) (st : List Frame) : Type 0 where
-  pub there : State
-  pub moves : Moves m false ts there false us
-  pub ends : (q : Place) (s : Punct) → ends_declarator s ≡ true → step_at there.stack there.at q (sign s) ≡ ended st x s
+pub record Declared (m : State) (ts us : List Marked) (x : MayDeclarator) (st : List Frame) : Type 0
+  where
+    pub there : State
+    pub moves : Moves m false ts there false us
+    pub ends : (q : Place) (s : Punct) → ends_declarator s ≡ true
+        → step_at there.stack there.at q (sign s) ≡ ended st x s
 
-direct_ends : (md : Mode) (p : Place) (ps : Pointers) (c : Core) (ss : Suffixes) (st : List Frame) (q : Place) (s : Punct) → ends_declarator s ≡ true
-    → step_at st (Direct md p ps c ss) q (sign s) ≡ ended st (some_declarator (declarator p ps c ss)) s
+direct_ends : (md : Mode) (p : Place) (ps : Pointers) (c : Core) (ss : Suffixes) (st : List Frame)
+    (q : Place) (s : Punct) → ends_declarator s ≡ true
+    → step_at st (Direct md p ps c ss) q (sign s)
+    ≡ ended st (some_declarator (declarator p ps c ss)) s
 direct_ends md p ps c ss st q puncts.RightParenthesis e = refl
 direct_ends md p ps c ss st q puncts.Comma e = refl
 direct_ends md p ps c ss st q puncts.Semicolon e = refl
 direct_ends md p ps c ss st q _ e = cc
 
-bare_ends : {n : State} {md : Mode} {y : Place} (p : Place) (ps : Pointers) {st : List Frame} → has_part ps nothing no_suffixes ≡ true → (has_pointer ps ≡ true → Bare n md y ps st)
-    → may_lack_name md ≡ true → only_pointers y ps ≡ only_pointers p ps → (q : Place) (s : Punct) → ends_declarator s ≡ true
-    → step_at n.stack n.at q (sign s) ≡ ended st (some_declarator (declarator p ps nothing no_suffixes)) s
+bare_ends : {n : State} {md : Mode} {y : Place} (p : Place) (ps : Pointers) {st : List Frame}
+    → has_part ps nothing no_suffixes ≡ true → (has_pointer ps ≡ true → Bare n md y ps st)
+    → may_lack_name md ≡ true → only_pointers y ps ≡ only_pointers p ps → (q : Place) (s : Punct)
+    → ends_declarator s ≡ true
+    → step_at n.stack n.at q (sign s)
+    ≡ ended st (some_declarator (declarator p ps nothing no_suffixes)) s
 bare_ends p no_pointers i g l a q s e = cc
-bare_ends p (then_pointer ps r qs) {st} i g l a q s e = let b = g refl in b.reads q s e l ∙ ap (λ x. ended st x s) a
+bare_ends p (then_pointer ps r qs) {st} i g l a q s e = let b = g refl in b.reads q s e l
+    ∙ ap (λ x. ended st x s) a
 
-pub direct_declared : {m : State} {ts us : List Marked} {md : Mode} {p : Place} {ps : Pointers} {c : Core} {ss : Suffixes} {st : List Frame}
-    → has_part ps c ss ≡ true → DirectAt m ts us md p ps c ss st → Declared m ts us (some_declarator (declarator p ps c ss)) st
-direct_declared {us = us} {md = md} {p = p} {ps = ps} {c = c} {ss = ss} {st = st} i h = record { there = h.there; moves = h.moves; ends = ends_of i h.like } where
-  ends_of : {n : State} {c : Core} {ss : Suffixes} → has_part ps c ss ≡ true → DirectLike n md p ps c ss st us → (q : Place) (s : Punct) → ends_declarator s ≡ true
-      → step_at n.stack n.at q (sign s) ≡ ended st (some_declarator (declarator p ps c ss)) s
-  ends_of i (is_bare h g l f a) = bare_ends p ps i g l a
-  ends_of {c = c} {ss = ss} i is_middle = direct_ends md p ps c ss st
+pub direct_declared : {m : State} {ts us : List Marked} {md : Mode} {p : Place} {ps : Pointers}
+    {c : Core} {ss : Suffixes} {st : List Frame}
+    → has_part ps c ss ≡ true → DirectAt m ts us md p ps c ss st
+    → Declared m ts us (some_declarator (declarator p ps c ss)) st
+direct_declared {us = us} {md = md} {p = p} {ps = ps} {c = c} {ss = ss} {st = st} i h =
+    record { there = h.there; moves = h.moves; ends = ends_of i h.like } where
+      ends_of : {n : State} {c : Core} {ss : Suffixes} → has_part ps c ss ≡ true
+          → DirectLike n md p ps c ss st us → (q : Place) (s : Punct) → ends_declarator s ≡ true
+          → step_at n.stack n.at q (sign s) ≡ ended st (some_declarator (declarator p ps c ss)) s
+      ends_of i (is_bare h g l f a) = bare_ends p ps i g l a
+      ends_of {c = c} {ss = ss} i is_middle = direct_ends md p ps c ss st

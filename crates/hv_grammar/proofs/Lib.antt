@@ -15,3 +15,4 @@ pub mod Soundness
 pub mod Completion
 pub mod Pending
 pub mod Verdict
+pub mod OneRefusal

@@ -18,7 +18,12 @@ pub record Completes (ts : List Marked) (a : Expr) : Type 0 where
 -- what the grammar derives, the machine reads, with this tree
 pub complete : {ts : List Marked} {a : Expr} → Reads 0 0 ts [] a → Completes ts a
 complete r = let h = read_expression r (want []) false [] want_nothing (omega arith) refl in
-    record { there = _; moves = h.moves; ends = ap after_end (h.ended 0 (omega arith) (omega arith)) }
+    record {
+      there = _;
+      moves = h.moves;
+      ends =
+          ap after_end (h.ended 0 (omega arith) (omega arith));
+    }
 
 -- where some tokens lead
 abbrev run : State → List Token → Option State
@@ -28,21 +33,27 @@ run m (t ∷ ts) = elim (step m t) [
   | Some k ↦ run k.state ts
 ]
 
-run_step : (m : State) (t : Token) (ts : List Token) (k : Taken) → step m t ≡ Some k → run m (t ∷ ts) ≡ run k.state ts
+run_step : (m : State) (t : Token) (ts : List Token) (k : Taken) → step m t ≡ Some k
+    → run m (t ∷ ts) ≡ run k.state ts
 run_step m t ts k e = ap (λ o. next o) e where
   next : Option Taken → Option State
   next None = None
   next (Some k) = run k.state ts
 
-ran : {m n : State} {x y : Bool} {ts us : List Marked} → Moves m x ts n y us → run m (map (λ t. t.token) ts) ≡ run n (map (λ t. t.token) us)
+ran : {m n : State} {x y : Bool} {ts us : List Marked} → Moves m x ts n y us
+    → run m (map (λ t. t.token) ts) ≡ run n (map (λ t. t.token) us)
 ran stays = refl
-ran (takes {m = m} {t = t} {ts = ts} (taken b z e) g) = run_step m t.token (map (λ u. u.token) ts) _ e ∙ ran g
-ran (takes {m = m} {t = t} {ts = ts} (taken_to_count r z e) g) = run_step m t.token (map (λ u. u.token) ts) _ e ∙ ran g
+ran (takes {m = m} {t = t} {ts = ts} (taken b z e) g) =
+    run_step m t.token (map (λ u. u.token) ts) _ e ∙ ran g
+ran (takes {m = m} {t = t} {ts = ts} (taken_to_count r z e) g) =
+    run_step m t.token (map (λ u. u.token) ts) _ e ∙ ran g
 
 same_some : {A : Type 0} {a b : A} → Some a ≡ Some b → a ≡ b
 same_some e = cc
 
-pub one_tree : (ts us : List Marked) (a b : Expr) → map (λ t. t.token) ts ≡ map (λ t. t.token) us → Reads 0 0 ts [] a → Reads 0 0 us [] b → a ≡ b
+pub one_tree : (ts us : List Marked) (a b : Expr) → map (λ t. t.token) ts ≡ map (λ t. t.token) us
+    → Reads 0 0 ts [] a → Reads 0 0 us [] b → a ≡ b
 one_tree ts us a b e r s = let g = complete r in let h = complete s in
-    let same : g.there ≡ h.there = same_some (sym (ran g.moves) ∙ (ap (run (want [])) e ∙ ran h.moves)) in
+    let same : g.there ≡ h.there =
+    same_some (sym (ran g.moves) ∙ (ap (run (want [])) e ∙ ran h.moves)) in
     same_some (sym g.ends ∙ (ap finished same ∙ h.ends))

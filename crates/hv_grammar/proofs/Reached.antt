@@ -35,22 +35,30 @@ is_sized _ = false
 pub data Site : Owner → List Frame → Type 0 where
   in_cast : {p : Place} {st : List Frame} → Site of_type_name (CastType p ∷ st)
   in_sizeof : {p : Place} {st : List Frame} → Site of_type_name (SizeofType p ∷ st)
-  in_parameters : {m : Mode} {p b f : Place} {ps : Pointers} {c : Core} {ss : Suffixes} {xs : ParameterList} {st : List Frame}
+  in_parameters : {m : Mode} {p b f : Place} {ps : Pointers} {c : Core} {ss : Suffixes}
+      {xs : ParameterList} {st : List Frame}
       → Site of_parameter (Parameters m p ps c ss b f xs ∷ st)
-  in_body : {p : Place} {k : StructOrUnion} {t : MayTag} {ms : Members} {st : List Frame} → Site of_member (Body p k t ms ∷ st)
+  in_body : {p : Place} {k : StructOrUnion} {t : MayTag} {ms : Members} {st : List Frame}
+      → Site of_member (Body p k t ms ∷ st)
 
 -- a declarator that may be of these kinds stands directly in these frames
 pub data Hosts : Mode → List Frame → Type 0 where
-  host_type : {p : Place} {xs : Specifiers} {st : List Frame} → Hosts only_abstract (Owned of_type_name p xs ∷ st)
-  host_parameter : {p : Place} {xs : Specifiers} {st : List Frame} → Hosts either (Owned of_parameter p xs ∷ st)
-  host_members : {p : Place} {xs : Specifiers} {ds : Declarators} {st : List Frame} → Hosts only_named (OwnedMembers p xs ds ∷ st)
-  host_group : {m : Mode} {p q : Place} {ps : Pointers} {st : List Frame} → Hosts m (Group m p ps q ∷ st)
+  host_type : {p : Place} {xs : Specifiers} {st : List Frame}
+      → Hosts only_abstract (Owned of_type_name p xs ∷ st)
+  host_parameter : {p : Place} {xs : Specifiers} {st : List Frame}
+      → Hosts either (Owned of_parameter p xs ∷ st)
+  host_members : {p : Place} {xs : Specifiers} {ds : Declarators} {st : List Frame}
+      → Hosts only_named (OwnedMembers p xs ds ∷ st)
+  host_group : {m : Mode} {p q : Place} {ps : Pointers} {st : List Frame}
+      → Hosts m (Group m p ps q ∷ st)
 
 pub data IsSpecified : List Frame → Type 0 where
-  is_specified : {o : Owner} {p : Place} {xs : Specifiers} {st : List Frame} → IsSpecified (Specified o p xs ∷ st)
+  is_specified : {o : Owner} {p : Place} {xs : Specifiers} {st : List Frame}
+      → IsSpecified (Specified o p xs ∷ st)
 
 pub data IsListing : List Frame → Type 0 where
-  is_listing : {p : Place} {t : MayTag} {es : Enumerators} {st : List Frame} → IsListing (Listing p t es ∷ st)
+  is_listing : {p : Place} {t : MayTag} {es : Enumerators} {st : List Frame}
+      → IsListing (Listing p t es ∷ st)
 
 -- the frame may stand directly in these; a `(` directly after `sizeof` is no frame yet
 abbrev pub Inside : Frame → List Frame → Type 0
@@ -69,33 +77,45 @@ Inside _ st = Unit {0}
 ------ what a frame keeps was read
 
 -- specifiers so far, perhaps none; they begin at the place
-pub data SpecifiersFrom : Owner → Place → Specifiers → Role → ℕ → List Marked → List Marked → Type 0 where
-  none_yet : {o : Owner} {p : Place} {r : Role} {d : ℕ} {us : List Marked} → BeginsAt p us → SpecifiersFrom o p no_specifiers r d us us
-  some_read : {o : Owner} {p : Place} {xs : Specifiers} {r : Role} {d : ℕ} {ts us : List Marked} → BeginsAt p ts → ReadsSpecifiers r d (words_of o) ts us xs
+pub data SpecifiersFrom : Owner → Place → Specifiers → Role → ℕ → List Marked → List Marked
+    → Type 0 where
+  none_yet : {o : Owner} {p : Place} {r : Role} {d : ℕ} {us : List Marked} → BeginsAt p us
+      → SpecifiersFrom o p no_specifiers r d us us
+  some_read : {o : Owner} {p : Place} {xs : Specifiers} {r : Role} {d : ℕ} {ts us : List Marked}
+      → BeginsAt p ts → ReadsSpecifiers r d (words_of o) ts us xs
       → SpecifiersFrom o p xs r d ts us
 
 pub data MembersFrom : Members → Role → ℕ → List Marked → List Marked → Type 0 where
   no_member_yet : {r : Role} {d : ℕ} {us : List Marked} → MembersFrom no_members r d us us
-  members_read : {ms : Members} {r : Role} {d : ℕ} {ts us : List Marked} → ReadsMembers r d ts us ms → MembersFrom ms r d ts us
+  members_read : {ms : Members} {r : Role} {d : ℕ} {ts us : List Marked} → ReadsMembers r d ts us ms
+      → MembersFrom ms r d ts us
 
 -- enumerators and the comma after them, or none
 pub data EnumeratorsFrom : Enumerators → Role → ℕ → List Marked → List Marked → Type 0 where
-  no_enumerator_yet : {r : Role} {d : ℕ} {us : List Marked} → EnumeratorsFrom no_enumerators r d us us
-  enumerators_read : {es : Enumerators} {r : Role} {d : ℕ} {ts us : List Marked} (q : Place) → ReadsEnumerators r d ts (at r d q comma_sign ∷ us) es
+  no_enumerator_yet : {r : Role} {d : ℕ} {us : List Marked}
+      → EnumeratorsFrom no_enumerators r d us us
+  enumerators_read : {es : Enumerators} {r : Role} {d : ℕ} {ts us : List Marked} (q : Place)
+      → ReadsEnumerators r d ts (at r d q comma_sign ∷ us) es
       → EnumeratorsFrom es r d ts us
 
 pub data DeclaratorsFrom : Declarators → Role → ℕ → List Marked → List Marked → Type 0 where
-  no_declarator_yet : {r : Role} {d : ℕ} {us : List Marked} → DeclaratorsFrom no_declarators r d us us
-  declarators_read : {ds : Declarators} {r : Role} {d : ℕ} {ts us : List Marked} (q : Place) → ReadsDeclarators r d ts (at r d q comma_sign ∷ us) ds
+  no_declarator_yet : {r : Role} {d : ℕ} {us : List Marked}
+      → DeclaratorsFrom no_declarators r d us us
+  declarators_read : {ds : Declarators} {r : Role} {d : ℕ} {ts us : List Marked} (q : Place)
+      → ReadsDeclarators r d ts (at r d q comma_sign ∷ us) ds
       → DeclaratorsFrom ds r d ts us
 
-pub data ParametersFrom : Place → ParameterList → Role → ℕ → List Marked → List Marked → Type 0 where
-  no_parameter_yet : {p : Place} {r : Role} {d : ℕ} {us : List Marked} → BeginsAt p us → ParametersFrom p no_parameters r d us us
-  parameters_read : {p : Place} {xs : ParameterList} {r : Role} {d : ℕ} {ts us : List Marked} (q : Place) → BeginsAt p ts
+pub data ParametersFrom : Place → ParameterList → Role → ℕ → List Marked → List Marked
+    → Type 0 where
+  no_parameter_yet : {p : Place} {r : Role} {d : ℕ} {us : List Marked} → BeginsAt p us
+      → ParametersFrom p no_parameters r d us us
+  parameters_read : {p : Place} {xs : ParameterList} {r : Role} {d : ℕ} {ts us : List Marked}
+      (q : Place) → BeginsAt p ts
       → ReadsParameters r d ts (at r d q comma_sign ∷ us) xs → ParametersFrom p xs r d ts us
 
 -- a declarator so far, of a kind that may stand there
-pub record DirectFrom (m : Mode) (p : Place) (ps : Pointers) (c : Core) (ss : Suffixes) (r : Role) (d : ℕ) (ts us : List Marked) : Type 0 where
+pub record DirectFrom (m : Mode) (p : Place) (ps : Pointers) (c : Core) (ss : Suffixes) (r : Role)
+    (d : ℕ) (ts us : List Marked) : Type 0 where
   pub naming : Naming
   pub suits : fits_mode naming m ≡ true
   pub begins : BeginsAt p ts
@@ -104,51 +124,82 @@ pub record DirectFrom (m : Mode) (p : Place) (ps : Pointers) (c : Core) (ss : Su
   pub direct : ReadsDirect r (stars ps d) naming middle us c ss
 
 pub data Began : Frame → Role → ℕ → List Marked → List Marked → Type 0 where
-  b_parenthesis : {r : Role} {d : ℕ} {ts : List Marked} (p : Place) → Began (Parenthesis p) r d (counted (suc d) p left_paren ∷ ts) ts
-  b_subscript : {r : Role} {d : ℕ} {ts us : List Marked} {a : Expr} (p : Place) → Reads d 15 ts (counted (suc d) p left_bracket ∷ us) a → Began (Subscript a) r d ts us
-  b_callee : {r : Role} {d : ℕ} {ts us : List Marked} {a : Expr} (p : Place) → Reads d 15 ts (counted (suc d) p left_paren ∷ us) a → Began (Callee a) r d ts us
-  b_calling : {r : Role} {d : ℕ} {ts us vs : List Marked} {a : Expr} {xs : Arguments} (p q : Place) → Reads d 15 ts (counted (suc d) p left_paren ∷ us) a
-      → ReadsArguments (suc d) us (quiet (suc d) q comma_sign ∷ vs) xs → Began (Calling a xs) r d ts vs
-  b_prefix : {r : Role} {d : ℕ} {ts : List Marked} (p : Place) (s : StepSign) → Began (Prefix p s) r d (counted (suc d) p (step_sign s) ∷ ts) ts
-  b_unary : {r : Role} {d : ℕ} {ts : List Marked} (p : Place) (op : UnaryOperator) → Began (Unary p op) r d (counted (suc d) p (unary_sign op) ∷ ts) ts
-  b_sizeof : {r : Role} {d : ℕ} {ts : List Marked} (p : Place) → Began (Sizeof p) r d (counted (suc d) p (keyword keywords.Sizeof) ∷ ts) ts
+  b_parenthesis : {r : Role} {d : ℕ} {ts : List Marked} (p : Place)
+      → Began (Parenthesis p) r d (counted (suc d) p left_paren ∷ ts) ts
+  b_subscript : {r : Role} {d : ℕ} {ts us : List Marked} {a : Expr} (p : Place)
+      → Reads d 15 ts (counted (suc d) p left_bracket ∷ us) a → Began (Subscript a) r d ts us
+  b_callee : {r : Role} {d : ℕ} {ts us : List Marked} {a : Expr} (p : Place)
+      → Reads d 15 ts (counted (suc d) p left_paren ∷ us) a → Began (Callee a) r d ts us
+  b_calling : {r : Role} {d : ℕ} {ts us vs : List Marked} {a : Expr} {xs : Arguments} (p q : Place)
+      → Reads d 15 ts (counted (suc d) p left_paren ∷ us) a
+      → ReadsArguments (suc d) us (quiet (suc d) q comma_sign ∷ vs) xs
+      → Began (Calling a xs) r d ts vs
+  b_prefix : {r : Role} {d : ℕ} {ts : List Marked} (p : Place) (s : StepSign)
+      → Began (Prefix p s) r d (counted (suc d) p (step_sign s) ∷ ts) ts
+  b_unary : {r : Role} {d : ℕ} {ts : List Marked} (p : Place) (op : UnaryOperator)
+      → Began (Unary p op) r d (counted (suc d) p (unary_sign op) ∷ ts) ts
+  b_sizeof : {r : Role} {d : ℕ} {ts : List Marked} (p : Place)
+      → Began (Sizeof p) r d (counted (suc d) p (keyword keywords.Sizeof) ∷ ts) ts
   b_sizeof_type : {r : Role} {d : ℕ} {ts : List Marked} (p q : Place)
-      → Began (SizeofType p) r d (counted (suc d) p (keyword keywords.Sizeof) ∷ quiet (suc (suc d)) q left_paren ∷ ts) ts
-  b_cast_type : {r : Role} {d : ℕ} {ts : List Marked} (p : Place) → Began (CastType p) r d (counted (suc d) p left_paren ∷ ts) ts
-  b_cast : {r : Role} {d : ℕ} {ts us : List Marked} {t : TypeName} (p q : Place) → ReadsTypeName (suc d) ts (quiet (suc d) q right_paren ∷ us) t
+      → Began (SizeofType p) r d (counted (suc d) p (keyword keywords.Sizeof) ∷
+      quiet (suc (suc d)) q left_paren ∷ ts) ts
+  b_cast_type : {r : Role} {d : ℕ} {ts : List Marked} (p : Place)
+      → Began (CastType p) r d (counted (suc d) p left_paren ∷ ts) ts
+  b_cast : {r : Role} {d : ℕ} {ts us : List Marked} {t : TypeName} (p q : Place)
+      → ReadsTypeName (suc d) ts (quiet (suc d) q right_paren ∷ us) t
       → Began (Cast p t) r d (counted (suc d) p left_paren ∷ ts) us
-  b_binary : {r : Role} {d : ℕ} {ts us : List Marked} {a : Expr} (p : Place) (op : BinaryOperator) → Reads d (level op) ts (counted d p (binary_sign op) ∷ us) a
+  b_binary : {r : Role} {d : ℕ} {ts us : List Marked} {a : Expr} (p : Place) (op : BinaryOperator)
+      → Reads d (level op) ts (counted d p (binary_sign op) ∷ us) a
       → Began (Binary op a) r d ts us
-  b_then : {r : Role} {d : ℕ} {ts us : List Marked} {a : Expr} (p : Place) → Reads d 3 ts (counted (suc d) p (sign puncts.Question) ∷ us) a → Began (Then a) r d ts us
-  b_else : {r : Role} {d : ℕ} {ts us vs : List Marked} {a b : Expr} (p q : Place) → Reads d 3 ts (counted (suc d) p (sign puncts.Question) ∷ us) a
+  b_then : {r : Role} {d : ℕ} {ts us : List Marked} {a : Expr} (p : Place)
+      → Reads d 3 ts (counted (suc d) p (sign puncts.Question) ∷ us) a → Began (Then a) r d ts us
+  b_else : {r : Role} {d : ℕ} {ts us vs : List Marked} {a b : Expr} (p q : Place)
+      → Reads d 3 ts (counted (suc d) p (sign puncts.Question) ∷ us) a
       → Reads (suc d) 0 us (quiet (suc d) q colon ∷ vs) b → Began (Else a b) r d ts vs
-  b_assign : {r : Role} {d : ℕ} {ts us : List Marked} {a : Expr} (p : Place) (op : AssignmentOperator) → Reads d 14 ts (counted d p (assignment_sign op) ∷ us) a
+  b_assign : {r : Role} {d : ℕ} {ts us : List Marked} {a : Expr} (p : Place)
+      (op : AssignmentOperator) → Reads d 14 ts (counted d p (assignment_sign op) ∷ us) a
       → Began (Assign op a) r d ts us
-  b_comma : {r : Role} {d : ℕ} {ts us : List Marked} {a : Expr} (p : Place) → Reads d 0 ts (counted d p comma_sign ∷ us) a → Began (Comma a) r d ts us
-  b_specified : {o : Owner} {p : Place} {xs : Specifiers} {r : Role} {d : ℕ} {ts us : List Marked} → SpecifiersFrom o p xs r d ts us → Began (Specified o p xs) r d ts us
-  b_body : {r : Role} {d : ℕ} {ts us vs : List Marked} {p : Place} {k : StructOrUnion} {t : MayTag} {ms : Members} (q : Place)
-      → ReadsTag r d ts (at r (suc d) q left_brace ∷ us) t → MembersFrom ms r (suc d) us vs → Began (Body p k t ms) r d (at r d p (compound_word k) ∷ ts) vs
-  b_listing : {r : Role} {d : ℕ} {ts us vs : List Marked} {p : Place} {t : MayTag} {es : Enumerators} (q : Place)
-      → ReadsTag r d ts (at r (braced d) q left_brace ∷ us) t → EnumeratorsFrom es r (braced d) us vs
+  b_comma : {r : Role} {d : ℕ} {ts us : List Marked} {a : Expr} (p : Place)
+      → Reads d 0 ts (counted d p comma_sign ∷ us) a → Began (Comma a) r d ts us
+  b_specified : {o : Owner} {p : Place} {xs : Specifiers} {r : Role} {d : ℕ} {ts us : List Marked}
+      → SpecifiersFrom o p xs r d ts us → Began (Specified o p xs) r d ts us
+  b_body : {r : Role} {d : ℕ} {ts us vs : List Marked} {p : Place} {k : StructOrUnion} {t : MayTag}
+      {ms : Members} (q : Place)
+      → ReadsTag r d ts (at r (suc d) q left_brace ∷ us) t → MembersFrom ms r (suc d) us vs
+      → Began (Body p k t ms) r d (at r d p (compound_word k) ∷ ts) vs
+  b_listing : {r : Role} {d : ℕ} {ts us vs : List Marked} {p : Place} {t : MayTag}
+      {es : Enumerators} (q : Place)
+      → ReadsTag r d ts (at r (braced d) q left_brace ∷ us) t
+      → EnumeratorsFrom es r (braced d) us vs
       → Began (Listing p t es) r d (at r d p (keyword keywords.Enum) ∷ ts) vs
-  b_valued : {r : Role} {d : ℕ} {ts : List Marked} {p : Place} {n : List ℕ} (q : Place) → Began (Valued p n) r d (at r d p (name n) ∷ at r d q equal_sign ∷ ts) ts
-  b_owned : {o : Owner} {p : Place} {xs : Specifiers} {r : Role} {d : ℕ} {ts us : List Marked} → BeginsAt p ts → ReadsSpecifiers r d (words_of o) ts us xs
+  b_valued : {r : Role} {d : ℕ} {ts : List Marked} {p : Place} {n : List ℕ} (q : Place)
+      → Began (Valued p n) r d (at r d p (name n) ∷ at r d q equal_sign ∷ ts) ts
+  b_owned : {o : Owner} {p : Place} {xs : Specifiers} {r : Role} {d : ℕ} {ts us : List Marked}
+      → BeginsAt p ts → ReadsSpecifiers r d (words_of o) ts us xs
       → Began (Owned o p xs) r d ts us
-  b_members : {p : Place} {xs : Specifiers} {ds : Declarators} {r : Role} {d : ℕ} {ts us vs : List Marked} → BeginsAt p ts → ReadsSpecifiers r d type_words ts us xs
+  b_members : {p : Place} {xs : Specifiers} {ds : Declarators} {r : Role} {d : ℕ}
+      {ts us vs : List Marked} → BeginsAt p ts → ReadsSpecifiers r d type_words ts us xs
       → DeclaratorsFrom ds r d us vs → Began (OwnedMembers p xs ds) r d ts vs
-  b_group : {m : Mode} {p q : Place} {ps : Pointers} {r : Role} {d : ℕ} {ts us : List Marked} → BeginsAt p ts
-      → ReadsPointers r d ts (at r (suc (stars ps d)) q left_paren ∷ us) ps → Began (Group m p ps q) r d ts us
-  b_length : {m : Mode} {p b : Place} {ps : Pointers} {c : Core} {ss : Suffixes} {qs : Qualifiers} {r : Role} {d : ℕ} {ts us vs : List Marked}
-      → DirectFrom m p ps c ss r d ts (at r (suc (stars ps d)) b left_bracket ∷ us) → ReadsQualifiers r (suc (stars ps d)) us vs qs
+  b_group : {m : Mode} {p q : Place} {ps : Pointers} {r : Role} {d : ℕ} {ts us : List Marked}
+      → BeginsAt p ts
+      → ReadsPointers r d ts (at r (suc (stars ps d)) q left_paren ∷ us) ps
+      → Began (Group m p ps q) r d ts us
+  b_length : {m : Mode} {p b : Place} {ps : Pointers} {c : Core} {ss : Suffixes} {qs : Qualifiers}
+      {r : Role} {d : ℕ} {ts us vs : List Marked}
+      → DirectFrom m p ps c ss r d ts (at r (suc (stars ps d)) b left_bracket ∷ us)
+      → ReadsQualifiers r (suc (stars ps d)) us vs qs
       → Began (Length m p ps c ss b qs) r d ts vs
-  b_parameters : {m : Mode} {p b f : Place} {ps : Pointers} {c : Core} {ss : Suffixes} {xs : ParameterList} {r : Role} {d : ℕ} {ts us vs : List Marked}
-      → DirectFrom m p ps c ss r d ts (at r (suc (stars ps d)) b left_paren ∷ us) → ParametersFrom f xs r (suc (stars ps d)) us vs
+  b_parameters : {m : Mode} {p b f : Place} {ps : Pointers} {c : Core} {ss : Suffixes}
+      {xs : ParameterList} {r : Role} {d : ℕ} {ts us vs : List Marked}
+      → DirectFrom m p ps c ss r d ts (at r (suc (stars ps d)) b left_paren ∷ us)
+      → ParametersFrom f xs r (suc (stars ps d)) us vs
       → Began (Parameters m p ps c ss b f xs) r d ts vs
 
 -- the frames were read, and each fits the one around it
 pub data Stacked : List Frame → List Marked → List Marked → Type 0 where
   empty : {ts : List Marked} → Stacked [] ts ts
-  more : {f : Frame} {stack : List Frame} {ws ts us : List Marked} → Stacked stack ws ts → hole_of stack ≤ made f → Inside f stack
+  more : {f : Frame} {stack : List Frame} {ws ts us : List Marked} → Stacked stack ws ts
+      → hole_of stack ≤ made f → Inside f stack
       → Began f (within stack) (depth stack) ts us → Stacked (f ∷ stack) ws us
 
 ------ what a state was reached from
@@ -167,21 +218,26 @@ pub record Wants (stack : List Frame) (ws us : List Marked) : Type 0 where
 
 -- before an operand; after `sizeof (` the truth value says whether the `(` counted
 pub data WantsAt : List Frame → Bool → List Marked → List Marked → Type 0 where
-  w_plainly : {stack : List Frame} {x : Bool} {ws us : List Marked} → Wants stack ws us → WantsAt stack x ws us
-  w_counts : {p q : Place} {stack : List Frame} {ws us : List Marked} → Stacked (Sizeof p ∷ stack) ws (counted (suc (suc (depth stack))) q left_paren ∷ us)
+  w_plainly : {stack : List Frame} {x : Bool} {ws us : List Marked} → Wants stack ws us
+      → WantsAt stack x ws us
+  w_counts : {p q : Place} {stack : List Frame} {ws us : List Marked}
+      → Stacked (Sizeof p ∷ stack) ws (counted (suc (suc (depth stack))) q left_paren ∷ us)
       → WantsAt (AfterSizeof q ∷ Sizeof p ∷ stack) true ws us
-  w_quietly : {p q : Place} {stack : List Frame} {ws us : List Marked} → Stacked (Sizeof p ∷ stack) ws (quiet (suc (suc (depth stack))) q left_paren ∷ us)
+  w_quietly : {p q : Place} {stack : List Frame} {ws us : List Marked}
+      → Stacked (Sizeof p ∷ stack) ws (quiet (suc (suc (depth stack))) q left_paren ∷ us)
       → WantsAt (AfterSizeof q ∷ Sizeof p ∷ stack) false ws us
 
-pub record Selects (stack : List Frame) (s : Selector) (a : Expr) (ws us : List Marked) : Type 0 where
-  pub from : List Marked
-  pub fits : hole_of stack ≤ 15
-  pub place : Place
-  pub stacked : Stacked stack ws from
-  pub reads : Reads (depth stack) 15 from (counted (depth stack) place (selector_sign s) ∷ us) a
+pub record Selects (stack : List Frame) (s : Selector) (a : Expr) (ws us : List Marked) : Type 0
+  where
+    pub from : List Marked
+    pub fits : hole_of stack ≤ 15
+    pub place : Place
+    pub stacked : Stacked stack ws from
+    pub reads : Reads (depth stack) 15 from (counted (depth stack) place (selector_sign s) ∷ us) a
 
 -- specifiers, at least one
-pub record WordsAt (o : Owner) (p : Place) (xs : Specifiers) (stack : List Frame) (ws us : List Marked) : Type 0 where
+pub record WordsAt (o : Owner) (p : Place) (xs : Specifiers) (stack : List Frame)
+    (ws us : List Marked) : Type 0 where
   pub from : List Marked
   pub site : Site o stack
   pub stacked : Stacked stack ws from
@@ -189,7 +245,8 @@ pub record WordsAt (o : Owner) (p : Place) (xs : Specifiers) (stack : List Frame
   pub reads : ReadsSpecifiers (within stack) (depth stack) (words_of o) from us xs
 
 -- specifiers, perhaps none
-pub record Specs (o : Owner) (p : Place) (xs : Specifiers) (stack : List Frame) (ws us : List Marked) : Type 0 where
+pub record Specs (o : Owner) (p : Place) (xs : Specifiers) (stack : List Frame)
+    (ws us : List Marked) : Type 0 where
   pub from : List Marked
   pub site : Site o stack
   pub stacked : Stacked stack ws from
@@ -209,41 +266,51 @@ pub record EnumeratorAt (stack : List Frame) (ws us : List Marked) : Type 0 wher
   pub stacked : Stacked stack ws us
 
 -- before the middle of a declarator
-pub record PointingAt (m : Mode) (p : Place) (ps : Pointers) (stack : List Frame) (ws us : List Marked) : Type 0 where
+pub record PointingAt (m : Mode) (p : Place) (ps : Pointers) (stack : List Frame)
+    (ws us : List Marked) : Type 0 where
   pub from : List Marked
   pub host : Hosts m stack
   pub stacked : Stacked stack ws from
   pub pointers : ReadsPointers (within stack) (depth stack) from us ps
   pub first : (q : Place) → BeginsAt q us → BeginsAt (begins p ps q) from
 
-pub record OpenedAt (m : Mode) (p : Place) (ps : Pointers) (b : Place) (stack : List Frame) (ws us : List Marked) : Type 0 where
+pub record OpenedAt (m : Mode) (p : Place) (ps : Pointers) (b : Place) (stack : List Frame)
+    (ws us : List Marked) : Type 0 where
   pub from : List Marked
   pub host : Hosts m stack
   pub lacks : may_lack_name m ≡ true
   pub stacked : Stacked stack ws from
   pub begins : BeginsAt p from
-  pub pointers : ReadsPointers (within stack) (depth stack) from (at (within stack) (suc (stars ps (depth stack))) b left_paren ∷ us) ps
+  pub pointers : ReadsPointers (within stack) (depth stack) from
+      (at (within stack) (suc (stars ps (depth stack))) b left_paren ∷ us) ps
 
-pub record MiddleAt (m : Mode) (p : Place) (ps : Pointers) (c : Core) (ss : Suffixes) (stack : List Frame) (ws us : List Marked) : Type 0 where
+pub record MiddleAt (m : Mode) (p : Place) (ps : Pointers) (c : Core) (ss : Suffixes)
+    (stack : List Frame) (ws us : List Marked) : Type 0 where
   pub from : List Marked
   pub host : Hosts m stack
   pub stacked : Stacked stack ws from
   pub direct : DirectFrom m p ps c ss (within stack) (depth stack) from us
 
-pub record WholeAt (m : Mode) (p : Place) (ps : Pointers) (c : Core) (ss : Suffixes) (stack : List Frame) (ws us : List Marked) : Type 0 where
+pub record WholeAt (m : Mode) (p : Place) (ps : Pointers) (c : Core) (ss : Suffixes)
+    (stack : List Frame) (ws us : List Marked) : Type 0 where
   pub part : has_part ps c ss ≡ true
   pub middle : MiddleAt m p ps c ss stack ws us
 
-pub record BracketAt (m : Mode) (p : Place) (ps : Pointers) (c : Core) (ss : Suffixes) (b : Place) (qs : Qualifiers) (stack : List Frame) (ws us : List Marked) : Type 0 where
+pub record BracketAt (m : Mode) (p : Place) (ps : Pointers) (c : Core) (ss : Suffixes) (b : Place)
+    (qs : Qualifiers) (stack : List Frame) (ws us : List Marked) : Type 0 where
   pub after : List Marked
-  pub middle : MiddleAt m p ps c ss stack ws (at (within stack) (suc (stars ps (depth stack))) b left_bracket ∷ after)
+  pub middle : MiddleAt m p ps c ss stack ws
+      (at (within stack) (suc (stars ps (depth stack))) b left_bracket ∷ after)
   pub qualifiers : ReadsQualifiers (within stack) (suc (stars ps (depth stack))) after us qs
 
 -- among parameters, after these tokens
 pub data NextAt : List Frame → List Marked → List Marked → Type 0 where
-  next_at : {m : Mode} {p b f : Place} {ps : Pointers} {c : Core} {ss : Suffixes} {xs : ParameterList} {st : List Frame} {ws us after : List Marked}
-      → MiddleAt m p ps c ss st ws (at (within st) (suc (stars ps (depth st))) b left_paren ∷ after) → BeginsAt f after → (q : Place)
-      → ReadsParameters (within st) (suc (stars ps (depth st))) after (at (within st) (suc (stars ps (depth st))) q comma_sign ∷ us) xs
+  next_at : {m : Mode} {p b f : Place} {ps : Pointers} {c : Core} {ss : Suffixes}
+      {xs : ParameterList} {st : List Frame} {ws us after : List Marked}
+      → MiddleAt m p ps c ss st ws (at (within st) (suc (stars ps (depth st))) b left_paren ∷ after)
+      → BeginsAt f after → (q : Place)
+      → ReadsParameters (within st) (suc (stars ps (depth st))) after
+      (at (within st) (suc (stars ps (depth st))) q comma_sign ∷ us) xs
       → NextAt (Parameters m p ps c ss b f xs ∷ st) ws us
 
 abbrev pub ReadAt : List Frame → At → Bool → List Marked → List Marked → Type 0
@@ -251,21 +318,30 @@ ReadAt stack Want x ws us = WantsAt stack x ws us
 ReadAt stack (Have k a) x ws us = Holds k stack a ws us
 ReadAt stack (Selecting s a) x ws us = Selects stack s a ws us
 ReadAt stack (Words o p xs) x ws us = WordsAt o p xs stack ws us
-ReadAt stack (AfterCompound p k) x ws us = Follows stack ws (at (within stack) (depth stack) p (compound_word k) ∷ us)
-ReadAt stack (AfterTag p k q n) x ws us = Follows stack ws (at (within stack) (depth stack) p (compound_word k) ∷ at (within stack) (depth stack) q (name n) ∷ us)
-ReadAt stack (AfterEnum p) x ws us = Follows stack ws (at (within stack) (depth stack) p (keyword keywords.Enum) ∷ us)
+ReadAt stack (AfterCompound p k) x ws us =
+    Follows stack ws (at (within stack) (depth stack) p (compound_word k) ∷ us)
+ReadAt stack (AfterTag p k q n) x ws us =
+    Follows stack ws (at (within stack) (depth stack) p (compound_word k) ∷
+    at (within stack) (depth stack) q (name n) ∷ us)
+ReadAt stack (AfterEnum p) x ws us =
+    Follows stack ws (at (within stack) (depth stack) p (keyword keywords.Enum) ∷ us)
 ReadAt stack (AfterEnumTag p q n) x ws us =
-    Follows stack ws (at (within stack) (depth stack) p (keyword keywords.Enum) ∷ at (within stack) (depth stack) q (name n) ∷ us)
+    Follows stack ws (at (within stack) (depth stack) p (keyword keywords.Enum) ∷
+    at (within stack) (depth stack) q (name n) ∷ us)
 ReadAt stack MemberStart x ws us = MemberAt stack ws us
 ReadAt stack EnumeratorStart x ws us = EnumeratorAt stack ws us
-ReadAt stack (AfterEnumerator p n) x ws us = EnumeratorAt stack ws (at (within stack) (depth stack) p (name n) ∷ us)
+ReadAt stack (AfterEnumerator p n) x ws us =
+    EnumeratorAt stack ws (at (within stack) (depth stack) p (name n) ∷ us)
 ReadAt stack (Pointing m p ps) x ws us = PointingAt m p ps stack ws us
 ReadAt stack (Opened m p ps b) x ws us = OpenedAt m p ps b stack ws us
 ReadAt stack (Direct m p ps c ss) x ws us = WholeAt m p ps c ss stack ws us
 ReadAt stack (Bracket m p ps c ss b qs) x ws us = BracketAt m p ps c ss b qs stack ws us
-ReadAt stack (ParametersStart m p ps c ss b) x ws us = MiddleAt m p ps c ss stack ws (at (within stack) (suc (stars ps (depth stack))) b left_paren ∷ us)
+ReadAt stack (ParametersStart m p ps c ss b) x ws us =
+    MiddleAt m p ps c ss stack ws
+    (at (within stack) (suc (stars ps (depth stack))) b left_paren ∷ us)
 ReadAt stack ParameterNext x ws us = NextAt stack ws us
-ReadAt stack AfterEllipsis x ws us = (q : Place) × NextAt stack ws (at (within stack) (depth stack) q (sign puncts.Ellipsis) ∷ us)
+ReadAt stack AfterEllipsis x ws us = (q : Place)
+    × NextAt stack ws (at (within stack) (depth stack) q (sign puncts.Ellipsis) ∷ us)
 
 abbrev pub ReadState : State → Bool → List Marked → List Marked → Type 0
 ReadState m x ws us = ReadAt m.stack m.at x ws us
@@ -273,28 +349,36 @@ ReadState m x ws us = ReadAt m.stack m.at x ws us
 ------ where a token leads
 
 -- the token was taken so from what stands before it
-pub record Led (B : Bool → List Marked → List Marked → Type 0) (p : Place) (s : Symbol) (k : Taken) : Type 0 where
-  pub plainly : (ws us : List Marked) → B k.late ws (at k.role k.depth p s ∷ us) → ReadState k.state false ws us
-  pub counting : k.sized ≡ true → (ws us : List Marked) → B k.late ws (at operator k.depth p s ∷ us) → ReadState k.state true ws us
+pub record Led (B : Bool → List Marked → List Marked → Type 0) (p : Place) (s : Symbol)
+    (k : Taken) : Type 0 where
+  pub plainly : (ws us : List Marked) → B k.late ws (at k.role k.depth p s ∷ us)
+      → ReadState k.state false ws us
+  pub counting : k.sized ≡ true → (ws us : List Marked) → B k.late ws (at operator k.depth p s ∷ us)
+      → ReadState k.state true ws us
 
-abbrev pub Leads : (Bool → List Marked → List Marked → Type 0) → Place → Symbol → Option Taken → Type 0
+abbrev pub Leads : (Bool → List Marked → List Marked → Type 0) → Place → Symbol → Option Taken
+    → Type 0
 Leads B p s None = Unit {0}
 Leads B p s (Some k) = Led B p s k
 
-pub once : {B : Bool → List Marked → List Marked → Type 0} {p : Place} {s : Symbol} {m : State} {r : Role} {d : ℕ} {x : Bool}
+pub once : {B : Bool → List Marked → List Marked → Type 0} {p : Place} {s : Symbol} {m : State}
+    {r : Role} {d : ℕ} {x : Bool}
     → ((ws us : List Marked) → B x ws (at r d p s ∷ us) → ReadState m false ws us)
     → Led B p s (record { state = m; depth = d; role = r; late = x; sized = false })
 once f = record { plainly = f; counting = λ e ws us h. cc }
 
-pub leads_by : (B C : Bool → List Marked → List Marked → Type 0) (p : Place) (s : Symbol) (o : Option Taken)
-    → ((x : Bool) (r : Role) (d : ℕ) (ws us : List Marked) → B x ws (at r d p s ∷ us) → C x ws (at r d p s ∷ us)) → Leads C p s o → Leads B p s o
+pub leads_by : (B C : Bool → List Marked → List Marked → Type 0) (p : Place) (s : Symbol)
+    (o : Option Taken)
+    → ((x : Bool) (r : Role) (d : ℕ) (ws us : List Marked) → B x ws (at r d p s ∷ us)
+    → C x ws (at r d p s ∷ us)) → Leads C p s o → Leads B p s o
 leads_by B C p s None f g = tt
 leads_by B C p s (Some k) f g = record {
   plainly = λ ws us h. g.plainly ws us (f k.late k.role k.depth ws us h);
   counting = λ e ws us h. g.counting e ws us (f k.late operator k.depth ws us h);
 }
 
-pub branches : (B : Bool → List Marked → List Marked → Type 0) (p : Place) (s : Symbol) (b : Bool) (u v : Option Taken)
+pub branches : (B : Bool → List Marked → List Marked → Type 0) (p : Place) (s : Symbol) (b : Bool)
+    (u v : Option Taken)
     → (b ≡ true → Leads B p s u) → (b ≡ false → Leads B p s v) → Leads B p s (cond b u v)
 branches B p s true u v f g = f refl
 branches B p s false u v f g = g refl
@@ -310,25 +394,42 @@ pub fits_most : (stack : List Frame) → hole_of stack ≤ 16
 fits_most [] = omega arith
 fits_most (f ∷ stack) = hole_most f
 
-lowered_by : (e k : ℕ) {d : ℕ} {ts us : List Marked} {a : Expr} → Reads d (e + k) ts us a → Reads d k ts us a
-lowered_by zero k {d} {ts} {us} {a} h = let e : 0 + k ≡ k = omega arith in subst (λ (n : ℕ). Reads d n ts us a) e h
+lowered_by : (e k : ℕ) {d : ℕ} {ts us : List Marked} {a : Expr} → Reads d (e + k) ts us a
+    → Reads d k ts us a
+lowered_by zero k {d} {ts} {us} {a} h = let e : 0 + k ≡ k = omega arith in
+    subst (λ (n : ℕ). Reads d n ts us a) e h
 lowered_by (suc n) k {d} {ts} {us} {a} h =
-    let e : suc n + k ≡ suc (n + k) = omega arith in lowered_by n k (r_higher (subst (λ (i : ℕ). Reads d i ts us a) e h))
+    let e : suc n + k ≡ suc (n + k) = omega arith in
+    lowered_by n k (r_higher (subst (λ (i : ℕ). Reads d i ts us a) e h))
 
-pub lowered : (k l : ℕ) {d : ℕ} {ts us : List Marked} {a : Expr} → k ≤ l → Reads d l ts us a → Reads d k ts us a
-lowered k l {d} {ts} {us} {a} h r = let e : l ≡ (l - k) + k = omega arith in lowered_by (l - k) k (subst (λ (n : ℕ). Reads d n ts us a) e r)
+pub lowered : (k l : ℕ) {d : ℕ} {ts us : List Marked} {a : Expr} → k ≤ l → Reads d l ts us a
+    → Reads d k ts us a
+lowered k l {d} {ts} {us} {a} h r = let e : l ≡ (l - k) + k = omega arith in
+    lowered_by (l - k) k (subst (λ (n : ℕ). Reads d n ts us a) e r)
 
 ------ specifiers
 
 -- one more specifier
-pub one_more : {o : Owner} {p : Place} {xs : Specifiers} {x : Specifier} {stack : List Frame} {ws from ts us : List Marked} → Site o stack → Stacked stack ws from
-    → SpecifiersFrom o p xs (within stack) (depth stack) from ts → ReadsSpecifier (within stack) (depth stack) (words_of o) (has_type xs) ts us x
+pub one_more : {o : Owner} {p : Place} {xs : Specifiers} {x : Specifier} {stack : List Frame}
+    {ws from ts us : List Marked} → Site o stack → Stacked stack ws from
+    → SpecifiersFrom o p xs (within stack) (depth stack) from ts
+    → ReadsSpecifier (within stack) (depth stack) (words_of o) (has_type xs) ts us x
     → WordsAt o p (then_specifier xs x) stack ws us
-one_more i s (none_yet b) r = record { from = _; site = i; stacked = s; begins = b; reads = r_specifier r }
-one_more i s (some_read b h) r = record { from = _; site = i; stacked = s; begins = b; reads = r_specifiers h r }
+one_more i s (none_yet b) r =
+    record { from = _; site = i; stacked = s; begins = b; reads = r_specifier r }
+one_more i s (some_read b h) r =
+    record { from = _; site = i; stacked = s; begins = b; reads = r_specifiers h r }
 
-pub specs_of : {o : Owner} {p : Place} {xs : Specifiers} {stack : List Frame} {ws us : List Marked} → WordsAt o p xs stack ws us → Specs o p xs stack ws us
-specs_of h = record { from = h.from; site = h.site; stacked = h.stacked; specifiers = some_read h.begins h.reads }
+pub specs_of : {o : Owner} {p : Place} {xs : Specifiers} {stack : List Frame} {ws us : List Marked}
+    → WordsAt o p xs stack ws us → Specs o p xs stack ws us
+specs_of h =
+    record {
+      from = h.from;
+      site = h.site;
+      stacked = h.stacked;
+      specifiers =
+          some_read h.begins h.reads;
+    }
 
 -- a type specifier was read, whatever stands before it
 pub record TypeAt (x : Specifier) (stack : List Frame) (ws us : List Marked) : Type 0 where
@@ -339,27 +440,32 @@ pub record TypeAt (x : Specifier) (stack : List Frame) (ws us : List Marked) : T
 ------ declarators
 
 -- what has something after its middle has a part
-pub part_suffix : (ps : Pointers) (c : Core) (ss : Suffixes) (s : Suffix) → has_part ps c (then_suffix ss s) ≡ true
+pub part_suffix : (ps : Pointers) (c : Core) (ss : Suffixes) (s : Suffix)
+    → has_part ps c (then_suffix ss s) ≡ true
 part_suffix no_pointers nothing ss s = refl
 part_suffix no_pointers (named p n) ss s = refl
 part_suffix no_pointers (group p d) ss s = refl
 part_suffix (then_pointer ps p qs) c ss s = refl
 
-pub part_named : (ps : Pointers) (p : Place) (n : List ℕ) → has_part ps (named p n) no_suffixes ≡ true
+pub part_named : (ps : Pointers) (p : Place) (n : List ℕ)
+    → has_part ps (named p n) no_suffixes ≡ true
 part_named no_pointers p n = refl
 part_named (then_pointer ps q qs) p n = refl
 
-pub part_group : (ps : Pointers) (p : Place) (x : Declarator) → has_part ps (group p x) no_suffixes ≡ true
+pub part_group : (ps : Pointers) (p : Place) (x : Declarator)
+    → has_part ps (group p x) no_suffixes ≡ true
 part_group no_pointers p x = refl
 part_group (then_pointer ps q qs) p x = refl
 
 -- a declarator, or nothing where none must be
 pub data MayRead : Mode → Role → ℕ → List Marked → List Marked → MayDeclarator → Type 0 where
   m_none : {m : Mode} {r : Role} {d : ℕ} {ts : List Marked} → MayRead m r d ts ts no_declarator
-  m_some : {m : Mode} {r : Role} {d : ℕ} {ts us : List Marked} {x : Declarator} (k : Naming) → fits_mode k m ≡ true → ReadsDeclarator r d k ts us x
+  m_some : {m : Mode} {r : Role} {d : ℕ} {ts us : List Marked} {x : Declarator} (k : Naming)
+      → fits_mode k m ≡ true → ReadsDeclarator r d k ts us x
       → MayRead m r d ts us (some_declarator x)
 
-pub record EndedAt (m : Mode) (x : MayDeclarator) (stack : List Frame) (ws us : List Marked) : Type 0 where
+pub record EndedAt (m : Mode) (x : MayDeclarator) (stack : List Frame) (ws us : List Marked) : Type
+    0 where
   pub from : List Marked
   pub host : Hosts m stack
   pub stacked : Stacked stack ws from

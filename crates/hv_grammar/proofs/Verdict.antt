@@ -19,28 +19,33 @@ use Rattle.hv_grammar.proofs.OneTree.{Completes, complete}
 use Rattle.hv_grammar.proofs.Pending.{is_pending, Steady, Steadily, steady}
 use Rattle.hv_grammar.proofs.Soundness.{sound, moves_read, start_read}
 
-abbrev token_of : Marked → Token
+abbrev pub token_of : Marked → Token
 token_of t = t.token
 
-abbrev tokens_of : List Marked → List Token
+abbrev pub tokens_of : List Marked → List Token
 tokens_of ts = map (λ t. t.token) ts
 
 ------ moves over a list and what stands after it
 
-appended : {m n o : State} {x y z : Bool} {ts us : List Marked} → Moves m x ts n y [] → Moves n y us o z [] → Moves m x (ts ++ us) o z []
+pub appended : {m n o : State} {x y z : Bool} {ts us : List Marked} → Moves m x ts n y []
+    → Moves n y us o z [] → Moves m x (ts ++ us) o z []
 appended stays g = g
 appended (takes e h) g = takes e (appended h g)
 
-record SplitAt (m : State) (x : Bool) (first rest : List Marked) (o : State) (z : Bool) : Type 0 where
-  there : State
-  pending : Bool
-  before : Moves m x first there pending []
-  after : Moves there pending rest o z []
+record SplitAt (m : State) (x : Bool) (first rest : List Marked) (o : State) (z : Bool) : Type 0
+  where
+    there : State
+    pending : Bool
+    before : Moves m x first there pending []
+    after : Moves there pending rest o z []
 
-split_more : {m n o : State} {x y z : Bool} {t : Marked} {first rest : List Marked} → Takes m x t n y → SplitAt n y first rest o z → SplitAt m x (t ∷ first) rest o z
-split_more e s = record { there = s.there; pending = s.pending; before = takes e s.before; after = s.after }
+split_more : {m n o : State} {x y z : Bool} {t : Marked} {first rest : List Marked}
+    → Takes m x t n y → SplitAt n y first rest o z → SplitAt m x (t ∷ first) rest o z
+split_more e s =
+    record { there = s.there; pending = s.pending; before = takes e s.before; after = s.after }
 
-split_at : (first rest : List Marked) {m o : State} {x z : Bool} → Moves m x (first ++ rest) o z [] → SplitAt m x first rest o z
+split_at : (first rest : List Marked) {m o : State} {x z : Bool} → Moves m x (first ++ rest) o z []
+    → SplitAt m x first rest o z
 split_at [] rest {m} {o} {x} {z} h = record { there = m; pending = x; before = stays; after = h }
 split_at (t ∷ first) rest (takes e h) = split_more e (split_at first rest h)
 
@@ -53,18 +58,23 @@ reached m (t ∷ ts) = elim (step m t) [
   | Some k ↦ reached k.state ts
 ]
 
-reached_step : (m : State) (t : Token) (ts : List Token) (k : Taken) → step m t ≡ Some k → reached m (t ∷ ts) ≡ reached k.state ts
+reached_step : (m : State) (t : Token) (ts : List Token) (k : Taken) → step m t ≡ Some k
+    → reached m (t ∷ ts) ≡ reached k.state ts
 reached_step m t ts k e = ap (λ o. next o) e where
   next : Option Taken → Option State
   next None = None
   next (Some k) = reached k.state ts
 
-reached_run : (us : List Token) {m n : State} {x y : Bool} {ts : List Marked} → Moves m x ts n y [] → reached m (tokens_of ts ++ us) ≡ reached n us
+reached_run : (us : List Token) {m n : State} {x y : Bool} {ts : List Marked} → Moves m x ts n y []
+    → reached m (tokens_of ts ++ us) ≡ reached n us
 reached_run us stays = refl
-reached_run us (takes {m = m} {t = t} {ts = ts} (taken b z e) g) = reached_step m t.token (tokens_of ts ++ us) _ e ∙ reached_run us g
-reached_run us (takes {m = m} {t = t} {ts = ts} (taken_to_count r z e) g) = reached_step m t.token (tokens_of ts ++ us) _ e ∙ reached_run us g
+reached_run us (takes {m = m} {t = t} {ts = ts} (taken b z e) g) =
+    reached_step m t.token (tokens_of ts ++ us) _ e ∙ reached_run us g
+reached_run us (takes {m = m} {t = t} {ts = ts} (taken_to_count r z e) g) =
+    reached_step m t.token (tokens_of ts ++ us) _ e ∙ reached_run us g
 
-reached_all : {m n : State} {x y : Bool} {ts : List Marked} → Moves m x ts n y [] → reached m (tokens_of ts) ≡ Some n
+reached_all : {m n : State} {x y : Bool} {ts : List Marked} → Moves m x ts n y []
+    → reached m (tokens_of ts) ≡ Some n
 reached_all {m} {ts = ts} g = ap (reached m) (sym (append-nil (tokens_of ts))) ∙ reached_run [] g
 
 -- whether a token says that the `(` before it counted
@@ -77,11 +87,11 @@ abbrev late_next : State → List Token → Bool → Bool
 late_next m [] w = w
 late_next m (t ∷ ts) w = late_of (step m t)
 
-abbrev role_by : Taken → Bool → Role
+abbrev pub role_by : Taken → Bool → Role
 role_by k false = k.role
 role_by k true = cond k.sized operator k.role
 
-abbrev marked_by : Taken → Token → Bool → Marked
+abbrev pub marked_by : Taken → Token → Bool → Marked
 marked_by k t b = record { token = t; depth = k.depth; role = role_by k b; statements = 0 }
 
 abbrev marks_of : State → List Token → Bool → List Marked
@@ -98,7 +108,8 @@ marks_step m t ts w k e = ap (λ o. next o) e where
   next None = []
   next (Some k) = marked_by k t (late_next k.state ts w) ∷ marks_of k.state ts w
 
-late_run : (us : List Token) (w : Bool) {m n : State} {x y : Bool} {ts : List Marked} → Moves m x ts n y [] → late_next n us w ≡ y
+late_run : (us : List Token) (w : Bool) {m n : State} {x y : Bool} {ts : List Marked}
+    → Moves m x ts n y [] → late_next n us w ≡ y
     → late_next m (tokens_of ts ++ us) w ≡ x
 late_run us w stays e = e
 late_run us w (takes (taken b z f) g) e = ap late_of f
@@ -106,26 +117,41 @@ late_run us w (takes (taken_to_count r z f) g) e = ap late_of f
 
 -- a token with no open statements, as the machine marks it
 same_quiet : (t : Marked) (n : State) (x b : Bool) → t.statements ≡ 0
-    → marked_by (record { state = n; depth = t.depth; role = t.role; late = x; sized = b }) t.token false ≡ t
-same_quiet t n x b e = ap (λ (i : ℕ). record { token = t.token; depth = t.depth; role = t.role; statements = i }) (sym e)
+    → marked_by (record { state = n; depth = t.depth; role = t.role; late = x; sized = b }) t.token
+    false ≡ t
+same_quiet t n x b e =
+    ap (λ (i : ℕ). record { token = t.token; depth = t.depth; role = t.role; statements = i })
+    (sym e)
 
 same_counted : (t : Marked) (n : State) (x : Bool) → t.role ≡ operator → t.statements ≡ 0
-    → marked_by (record { state = n; depth = t.depth; role = inside; late = x; sized = true }) t.token true ≡ t
-same_counted t n x r e = ap (λ (o : Role). record { token = t.token; depth = t.depth; role = o; statements = 0 }) (sym r)
-    ∙ ap (λ (i : ℕ). record { token = t.token; depth = t.depth; role = t.role; statements = i }) (sym e)
+    → marked_by (record { state = n; depth = t.depth; role = inside; late = x; sized = true })
+    t.token true ≡ t
+same_counted t n x r e =
+    ap (λ (o : Role). record { token = t.token; depth = t.depth; role = o; statements = 0 }) (sym r)
+    ∙ ap (λ (i : ℕ). record { token = t.token; depth = t.depth; role = t.role; statements = i })
+    (sym e)
 
 -- the marks of the tokens are those that the machine gives them
-marks_run : (us : List Token) (w : Bool) {m n : State} {x y : Bool} {ts : List Marked} → Moves m x ts n y [] → late_next n us w ≡ y
+marks_run : (us : List Token) (w : Bool) {m n : State} {x y : Bool} {ts : List Marked}
+    → Moves m x ts n y [] → late_next n us w ≡ y
     → marks_of m (tokens_of ts ++ us) w ≡ ts ++ marks_of n us w
 marks_run us w stays e = refl
 marks_run us w (takes {m = m} {n = o} {x = x} {t = t} {ts = ts} (taken b z f) g) e =
-    marks_step m t.token (tokens_of ts ++ us) w (record { state = o; depth = t.depth; role = t.role; late = x; sized = b }) f
-    ∙ (ap (λ c. marked_by (record { state = o; depth = t.depth; role = t.role; late = x; sized = b }) t.token c ∷ marks_of o (tokens_of ts ++ us) w) (late_run us w g e)
-    ∙ (ap (λ v. v ∷ marks_of o (tokens_of ts ++ us) w) (same_quiet t o x b z) ∙ ap (λ (vs : List Marked). t ∷ vs) (marks_run us w g e)))
+    marks_step m t.token (tokens_of ts ++ us) w
+    (record { state = o; depth = t.depth; role = t.role; late = x; sized = b }) f
+    ∙ (ap (λ c. marked_by (record
+    { state = o; depth = t.depth; role = t.role; late = x; sized = b }) t.token c ∷
+    marks_of o (tokens_of ts ++ us) w) (late_run us w g e)
+    ∙ (ap (λ v. v ∷ marks_of o (tokens_of ts ++ us) w) (same_quiet t o x b z)
+    ∙ ap (λ (vs : List Marked). t ∷ vs) (marks_run us w g e)))
 marks_run us w (takes {m = m} {n = o} {x = x} {t = t} {ts = ts} (taken_to_count r z f) g) e =
-    marks_step m t.token (tokens_of ts ++ us) w (record { state = o; depth = t.depth; role = inside; late = x; sized = true }) f
-    ∙ (ap (λ c. marked_by (record { state = o; depth = t.depth; role = inside; late = x; sized = true }) t.token c ∷ marks_of o (tokens_of ts ++ us) w) (late_run us w g e)
-    ∙ (ap (λ v. v ∷ marks_of o (tokens_of ts ++ us) w) (same_counted t o x r z) ∙ ap (λ (vs : List Marked). t ∷ vs) (marks_run us w g e)))
+    marks_step m t.token (tokens_of ts ++ us) w
+    (record { state = o; depth = t.depth; role = inside; late = x; sized = true }) f
+    ∙ (ap (λ c. marked_by (record
+    { state = o; depth = t.depth; role = inside; late = x; sized = true }) t.token c ∷
+    marks_of o (tokens_of ts ++ us) w) (late_run us w g e)
+    ∙ (ap (λ v. v ∷ marks_of o (tokens_of ts ++ us) w) (same_counted t o x r z)
+    ∙ ap (λ (vs : List Marked). t ∷ vs) (marks_run us w g e)))
 
 ------ limits
 
@@ -133,15 +159,18 @@ abbrev count : ℕ → List Marked → ℕ
 count n [] = n
 count n (t ∷ ts) = count (operators_with n t.role) ts
 
-keeps_more : (l : Limits) (n : ℕ) (ts us : List Marked) → KeepsLimits l n ts → KeepsLimits l (count n ts) us → KeepsLimits l n (ts ++ us)
+keeps_more : (l : Limits) (n : ℕ) (ts us : List Marked) → KeepsLimits l n ts
+    → KeepsLimits l (count n ts) us → KeepsLimits l n (ts ++ us)
 keeps_more l n [] us h g = g
 keeps_more l n (t ∷ ts) us h g = (h.0, h.1, h.2, keeps_more l (operators_with n t.role) ts us h.3 g)
 
-keeps_last : (l : Limits) (n : ℕ) (ts us : List Marked) → KeepsLimits l n (ts ++ us) → KeepsLimits l (count n ts) us
+keeps_last : (l : Limits) (n : ℕ) (ts us : List Marked) → KeepsLimits l n (ts ++ us)
+    → KeepsLimits l (count n ts) us
 keeps_last l n [] us h = h
 keeps_last l n (t ∷ ts) us h = keeps_last l (operators_with n t.role) ts us h.3
 
-few_first : (l : Limits) (n : ℕ) (ts us : List Marked) → KeepsLimits l n (ts ++ us) → n ≤ l.operators → count n ts ≤ l.operators
+few_first : (l : Limits) (n : ℕ) (ts us : List Marked) → KeepsLimits l n (ts ++ us)
+    → n ≤ l.operators → count n ts ≤ l.operators
 few_first l n [] us h f = f
 few_first l n (t ∷ ts) us h f = few_first l (operators_with n t.role) ts us h.3 h.2
 
@@ -154,51 +183,55 @@ tokens_more [] us = refl
 tokens_more (t ∷ ts) us = ap (λ x. t.token ∷ x) (tokens_more ts us)
 
 -- a token keeps the limits
-record Kept (l : Limits) (n : ℕ) (k : Taken) : Type 0 where
+pub record Kept (l : Limits) (n : ℕ) (k : Taken) : Type 0 where
   shallow : k.depth ≤ l.brackets
   few : operators_before n k.late ≤ l.operators
   fewer : operators_after n k ≤ l.operators
 
-kept : (l : Limits) (n : ℕ) (k : Taken) → keeps l n k ≡ true → Kept l n k
+pub kept : (l : Limits) (n : ℕ) (k : Taken) → keeps l n k ≡ true → Kept l n k
 kept l n k e =
     elim (nat_le k.depth l.brackets) as (λ b. nat_le k.depth l.brackets ≡ b
-        → cond b (cond (nat_le (operators_before n k.late) l.operators) (nat_le (operators_after n k) l.operators) false) false ≡ true → Kept l n k) [
-      | true ↦ λ d f. elim (nat_le (operators_before n k.late) l.operators) as (λ b. nat_le (operators_before n k.late) l.operators ≡ b
+    → cond b (cond (nat_le (operators_before n k.late) l.operators)
+    (nat_le (operators_after n k) l.operators) false) false ≡ true → Kept l n k) [
+      | true ↦ λ d f. elim (nat_le (operators_before n k.late) l.operators) as (λ b. nat_le
+          (operators_before n k.late) l.operators ≡ b
           → cond b (nat_le (operators_after n k) l.operators) false ≡ true → Kept l n k) [
-        | true ↦ λ g h.
-            let shallow : k.depth ≤ l.brackets = grind (arith, nat_tests) in
-            let few : operators_before n k.late ≤ l.operators = grind (arith, nat_tests) in
-            let fewer : operators_after n k ≤ l.operators = grind (arith, nat_tests) in
-            record { shallow = shallow; few = few; fewer = fewer }
-        | false ↦ λ g h. cc
-      ] refl f
+            | true ↦ λ g h.
+                let shallow : k.depth ≤ l.brackets = grind (arith, nat_tests) in
+                let few : operators_before n k.late ≤ l.operators = grind (arith, nat_tests) in
+                let fewer : operators_after n k ≤ l.operators = grind (arith, nat_tests) in
+                record { shallow = shallow; few = few; fewer = fewer }
+            | false ↦ λ g h. cc
+          ] refl f
       | false ↦ λ d f. cc
     ] refl e
 
 keeps_so : (l : Limits) (n : ℕ) (k : Taken) → Kept l n k → keeps l n k ≡ true
 keeps_so l n k h =
     let d : nat_le k.depth l.brackets ≡ true = let le = h.shallow in grind (arith, nat_tests) in
-    let f : nat_le (operators_before n k.late) l.operators ≡ true = let le = h.few in grind (arith, nat_tests) in
-    let g : nat_le (operators_after n k) l.operators ≡ true = let le = h.fewer in grind (arith, nat_tests) in
+    let f : nat_le (operators_before n k.late) l.operators ≡ true = let le = h.few in
+    grind (arith, nat_tests) in
+    let g : nat_le (operators_after n k) l.operators ≡ true = let le = h.fewer in
+    grind (arith, nat_tests) in
     rw (d, f, g) refl
 
 ------ what stands before the machine
 
 -- the machine comes so from the first tokens; n of them count
-record Based (l : Limits) (m : State) (x : Bool) (n : ℕ) (before : List Token) : Type 0 where
-  done : List Marked
-  tokens : tokens_of done ≡ before
-  moves : Moves (want []) false done m x []
-  counts : count 0 done ≡ n
-  limits : n ≤ l.operators → KeepsLimits l 0 done
+pub record Based (l : Limits) (m : State) (x : Bool) (n : ℕ) (before : List Token) : Type 0 where
+  pub done : List Marked
+  pub tokens : tokens_of done ≡ before
+  pub moves : Moves (want []) false done m x []
+  pub counts : count 0 done ≡ n
+  pub limits : n ≤ l.operators → KeepsLimits l 0 done
 
 -- the machine stands after the first tokens; where a `(` is pending, n is without it
-record Stand (l : Limits) (m : State) (n : ℕ) (before : List Token) : Type 0 where
-  base : Based l m false n before
-  few : n ≤ l.operators
-  pending : is_pending m ≡ true → Based l m true (suc n) before
+pub record Stand (l : Limits) (m : State) (n : ℕ) (before : List Token) : Type 0 where
+  pub base : Based l m false n before
+  pub few : n ≤ l.operators
+  pub pending : is_pending m ≡ true → Based l m true (suc n) before
 
-start : (l : Limits) → Stand l (want []) 0 []
+pub start : (l : Limits) → Stand l (want []) 0 []
 start l = record {
   base = record { done = []; tokens = refl; moves = stays; counts = refl; limits = λ f. tt };
   few = omega arith;
@@ -206,10 +239,12 @@ start l = record {
 }
 
 steady_step : (m : State) (t : Token) (k : Taken) → step m t ≡ Some k → Steady (is_pending m) k
-steady_step m t k e = subst (λ (o : Option Taken). Steadily (is_pending m) o) e (steady m.stack m.at t.place t.symbol)
+steady_step m t k e =
+    subst (λ (o : Option Taken). Steadily (is_pending m) o) e (steady m.stack m.at t.place t.symbol)
 
 -- the way to the state that the next token wants
-based_for : {l : Limits} {m : State} {n : ℕ} {before : List Token} (t : Token) (k : Taken) → Stand l m n before → step m t ≡ Some k
+pub based_for : {l : Limits} {m : State} {n : ℕ} {before : List Token} (t : Token) (k : Taken)
+    → Stand l m n before → step m t ≡ Some k
     → Based l m k.late (operators_before n k.late) before
 based_for {l} {m} {n} {before} t k s e = pick (is_pending m) k.late refl refl where
   h : Steady (is_pending m) k
@@ -220,33 +255,47 @@ based_for {l} {m} {n} {before} t k s e = pick (is_pending m) k.late refl refl wh
   pick true true p q = s.pending p
   pick false true p q = let late : k.late ≡ false = h.late p in cc
 
-one_token : (done : List Marked) (t : Marked) {before : List Token} → tokens_of done ≡ before → tokens_of (done ++ t ∷ []) ≡ before ++ t.token ∷ []
+pub one_token : (done : List Marked) (t : Marked) {before : List Token} → tokens_of done ≡ before
+    → tokens_of (done ++ t ∷ []) ≡ before ++ t.token ∷ []
 one_token done t e = tokens_more done (t ∷ []) ∙ ap (λ (ts : List Token). ts ++ t.token ∷ []) e
 
-based_next : {l : Limits} {m n : State} {x y : Bool} {i : ℕ} {before : List Token} (t : Marked) → Based l m x i before → Takes m x t n y → i ≤ l.operators
-    → t.depth ≤ l.brackets → t.statements ≤ l.statements → Based l n y (operators_with i t.role) (before ++ t.token ∷ [])
+based_next : {l : Limits} {m n : State} {x y : Bool} {i : ℕ} {before : List Token} (t : Marked)
+    → Based l m x i before → Takes m x t n y → i ≤ l.operators
+    → t.depth ≤ l.brackets → t.statements ≤ l.statements
+    → Based l n y (operators_with i t.role) (before ++ t.token ∷ [])
 based_next {l} {i = i} t b e few shallow flat = record {
   done = b.done ++ t ∷ [];
   tokens = one_token b.done t b.tokens;
   moves = appended b.moves (takes e stays);
   counts = count_more 0 b.done (t ∷ []) ∙ ap (λ (j : ℕ). operators_with j t.role) b.counts;
-  limits = λ f. keeps_more l 0 b.done (t ∷ []) (b.limits few) (subst (λ (j : ℕ). KeepsLimits l j (t ∷ [])) (sym b.counts) (shallow, flat, f, tt));
+  limits =
+      λ f. keeps_more l 0 b.done (t ∷ []) (b.limits few)
+      (subst (λ (j : ℕ). KeepsLimits l j (t ∷ [])) (sym b.counts) (shallow, flat, f, tt));
 }
 
 -- the token as it is, where it doesn't count as a pending `(`
-quietly : {m : State} (t : Token) (k : Taken) → step m t ≡ Some k → Takes m k.late (marked_by k t false) k.state false
+pub quietly : {m : State} (t : Token) (k : Taken) → step m t ≡ Some k
+    → Takes m k.late (marked_by k t false) k.state false
 quietly t k e = taken k.sized refl e
 
-counting : {m : State} (t : Token) (k : Taken) → step m t ≡ Some k → k.sized ≡ true → k.role ≡ inside
-    → Takes m k.late (record { token = t; depth = k.depth; role = operator; statements = 0 }) k.state true
-counting {m} t k e sized quiet = taken_to_count refl refl (e ∙ (ap (λ (r : Role). Some (record { state = k.state; depth = k.depth; role = r; late = k.late; sized = k.sized })) quiet
-    ∙ ap (λ (b : Bool). Some (record { state = k.state; depth = k.depth; role = inside; late = k.late; sized = b })) sized))
+counting : {m : State} (t : Token) (k : Taken) → step m t ≡ Some k → k.sized ≡ true
+    → k.role ≡ inside
+    → Takes m k.late (record { token = t; depth = k.depth; role = operator; statements = 0 })
+    k.state true
+counting {m} t k e sized quiet =
+    taken_to_count refl refl (e
+    ∙ (ap (λ (r : Role). Some (record
+    { state = k.state; depth = k.depth; role = r; late = k.late; sized = k.sized })) quiet
+    ∙ ap (λ (b : Bool). Some (record
+    { state = k.state; depth = k.depth; role = inside; late = k.late; sized = b })) sized))
 
 -- the next token is taken
-stand_next : {l : Limits} {m : State} {n : ℕ} {before : List Token} (t : Token) (k : Taken) → Stand l m n before → step m t ≡ Some k → Kept l n k
+pub stand_next : {l : Limits} {m : State} {n : ℕ} {before : List Token} (t : Token) (k : Taken)
+    → Stand l m n before → step m t ≡ Some k → Kept l n k
     → Stand l k.state (operators_after n k) (before ++ t ∷ [])
 stand_next {l} {m} {n} {before} t k s e q = record {
-  base = based_next (marked_by k t false) (based_for t k s e) (quietly t k e) q.few q.shallow (omega arith);
+  base = based_next (marked_by k t false) (based_for t k s e) (quietly t k e) q.few q.shallow
+      (omega arith);
   few = q.fewer;
   pending = λ p. counted (sym h.pending ∙ p);
 } where
@@ -256,19 +305,23 @@ stand_next {l} {m} {n} {before} t k s e q = record {
   counted : k.sized ≡ true → Based l k.state true (suc (operators_after n k)) (before ++ t ∷ [])
   counted sized =
       let quiet : k.role ≡ inside = h.quiet sized in
-      let same : operators_before n k.late ≡ operators_after n k = ap (λ (r : Role). operators_with (operators_before n k.late) r) (sym quiet) in
+      let same : operators_before n k.late ≡ operators_after n k =
+      ap (λ (r : Role). operators_with (operators_before n k.late) r) (sym quiet) in
       subst (λ (i : ℕ). Based l k.state true (suc i) (before ++ t ∷ [])) same
-      (based_next (record { token = t; depth = k.depth; role = operator; statements = 0 }) (based_for t k s e) (counting t k e sized quiet) q.few q.shallow (omega arith))
+      (based_next (record { token = t; depth = k.depth; role = operator; statements = 0 })
+      (based_for t k s e) (counting t k e sized quiet) q.few q.shallow (omega arith))
 
 ------ what can follow
 
 ended_by : {m : State} {done : List Marked} → Moves (want []) false done m false [] → Ends m false
 ended_by {m} {done} g = ends m done [] (moves_read done (start_read done) g)
 
-whole_of : {m : State} {done : List Marked} → Moves (want []) false done m false [] → (e : Ends m false) → WholeExpression (done ++ e.rest)
+whole_of : {m : State} {done : List Marked} → Moves (want []) false done m false []
+    → (e : Ends m false) → WholeExpression (done ++ e.rest)
 whole_of g e = record { tree = e.tree; reads = sound (appended g e.moves) e.is }
 
-begins_within : {l : Limits} {m : State} {n : ℕ} {before : List Token} → Stand l m n before → BeginsWithin l token_of WholeExpression before
+pub begins_within : {l : Limits} {m : State} {n : ℕ} {before : List Token} → Stand l m n before
+    → BeginsWithin l token_of WholeExpression before
 begins_within s = record {
   first = s.base.done;
   rest = (ended_by s.base.moves).rest;
@@ -277,8 +330,10 @@ begins_within s = record {
   limits = s.base.limits s.few;
 }
 
-begins_from : {m : State} (done : List Marked) {before : List Token} → tokens_of done ≡ before → Moves (want []) false done m false [] → Begins token_of WholeExpression before
-begins_from done e g = record { first = done; rest = (ended_by g).rest; tokens = e; whole = whole_of g (ended_by g) }
+pub begins_from : {m : State} (done : List Marked) {before : List Token} → tokens_of done ≡ before
+    → Moves (want []) false done m false [] → Begins token_of WholeExpression before
+begins_from done e g =
+    record { first = done; rest = (ended_by g).rest; tokens = e; whole = whole_of g (ended_by g) }
 
 -- what an expression begins with, the machine takes
 record Came (first : List Marked) : Type 0 where
@@ -289,59 +344,81 @@ record Came (first : List Marked) : Type 0 where
 came : (first rest : List Marked) → WholeExpression (first ++ rest) → Came first
 came first rest w = go (complete w.reads) where
   go : Completes (first ++ rest) w.tree → Came first
-  go h = let s = split_at first rest h.moves in record { there = s.there; pending = s.pending; moves = s.before }
+  go h = let s = split_at first rest h.moves in
+      record { there = s.there; pending = s.pending; moves = s.before }
 
 -- no expression begins with a token that the machine refuses
-refused : {l : Limits} {m : State} {n : ℕ} {before : List Token} (t : Token) → Stand l m n before → step m t ≡ None → Begins token_of WholeExpression (before ++ t ∷ []) → ⊥
+pub refused : {l : Limits} {m : State} {n : ℕ} {before : List Token} (t : Token)
+    → Stand l m n before → step m t ≡ None → Begins token_of WholeExpression (before ++ t ∷ []) → ⊥
 refused {m = m} {before = before} t s e b =
     let c = came b.first b.rest b.whole in
     let some : reached (want []) (tokens_of b.first) ≡ Some c.there = reached_all c.moves in
-    let here : reached (want []) (tokens_of s.base.done ++ t ∷ []) ≡ reached m (t ∷ []) = reached_run (t ∷ []) s.base.moves in
+    let here : reached (want []) (tokens_of s.base.done ++ t ∷ []) ≡ reached m (t ∷ []) =
+    reached_run (t ∷ []) s.base.moves in
     let no : reached m (t ∷ []) ≡ None = rw (e, reached) refl in
-    let same : reached (want []) (tokens_of b.first) ≡ reached (want []) (tokens_of s.base.done ++ t ∷ []) =
-        ap (reached (want [])) (b.tokens ∙ ap (λ (ts : List Token). ts ++ t ∷ []) (sym s.base.tokens)) in
+    let same : reached (want []) (tokens_of b.first)
+    ≡ reached (want []) (tokens_of s.base.done ++ t ∷ []) =
+    ap (reached (want [])) (b.tokens
+    ∙ ap (λ (ts : List Token). ts ++ t ∷ []) (sym s.base.tokens)) in
     cc
 
 -- the marks of what begins so are those of the machine
-same_first : {l : Limits} {m : State} {n : ℕ} {before : List Token} (t : Token) (k : Taken) → step m t ≡ Some k → (s : Based l m k.late n before)
-    → (b : BeginsWithin l token_of WholeExpression (before ++ t ∷ [])) → (c : Came b.first) → b.first ≡ s.done ++ marked_by k t c.pending ∷ []
+same_first : {l : Limits} {m : State} {n : ℕ} {before : List Token} (t : Token) (k : Taken)
+    → step m t ≡ Some k → (s : Based l m k.late n before)
+    → (b : BeginsWithin l token_of WholeExpression (before ++ t ∷ [])) → (c : Came b.first)
+    → b.first ≡ s.done ++ marked_by k t c.pending ∷ []
 same_first {m = m} t k e s b c =
     sym (append-nil b.first) ∙ (sym (marks_run [] c.pending c.moves refl)
-    ∙ (ap (λ (ts : List Token). marks_of (want []) ts c.pending) (append-nil (tokens_of b.first) ∙ (b.tokens ∙ ap (λ (ts : List Token). ts ++ t ∷ []) (sym s.tokens)))
-    ∙ (marks_run (t ∷ []) c.pending s.moves (ap late_of e) ∙ ap (λ (ts : List Marked). s.done ++ ts) (marks_step m t [] c.pending k e))))
+    ∙ (ap (λ (ts : List Token). marks_of (want []) ts c.pending)
+    (append-nil (tokens_of b.first)
+    ∙ (b.tokens ∙ ap (λ (ts : List Token). ts ++ t ∷ []) (sym s.tokens)))
+    ∙ (marks_run (t ∷ []) c.pending s.moves (ap late_of e)
+    ∙ ap (λ (ts : List Marked). s.done ++ ts) (marks_step m t [] c.pending k e))))
 
 -- a pending `(` counts for no fewer operators than one that isn't
-no_fewer : (n o : ℕ) (k : Taken) (b : Bool) → (k.sized ≡ true → k.role ≡ inside) → operators_with n (role_by k b) ≤ o → n ≤ o → operators_with n k.role ≤ o
+no_fewer : (n o : ℕ) (k : Taken) (b : Bool) → (k.sized ≡ true → k.role ≡ inside)
+    → operators_with n (role_by k b) ≤ o → n ≤ o → operators_with n k.role ≤ o
 no_fewer n o k false q f g = f
 no_fewer n o k true q f g = go k.sized refl f where
-  go : (b : Bool) → k.sized ≡ b → operators_with n (cond b operator k.role) ≤ o → operators_with n k.role ≤ o
+  go : (b : Bool) → k.sized ≡ b → operators_with n (cond b operator k.role) ≤ o
+      → operators_with n k.role ≤ o
   go false e h = h
   go true e h = subst (λ (r : Role). operators_with n r ≤ o) (sym (q e)) g
 
-too_deep : {l : Limits} {m : State} {n : ℕ} {before : List Token} (t : Token) (k : Taken) → Stand l m n before → step m t ≡ Some k → keeps l n k ≡ false
+pub too_deep : {l : Limits} {m : State} {n : ℕ} {before : List Token} (t : Token) (k : Taken)
+    → Stand l m n before → step m t ≡ Some k → keeps l n k ≡ false
     → BeginsWithin l token_of WholeExpression (before ++ t ∷ []) → ⊥
-too_deep {l} {m} {n} {before} t k s e f b = go (based_for t k s e) (came b.first b.rest b.whole) where
-  go : Based l m k.late (operators_before n k.late) before → Came b.first → ⊥
-  go d c =
-      let all : KeepsLimits l 0 (d.done ++ marked_by k t c.pending ∷ []) = subst (λ (ts : List Marked). KeepsLimits l 0 ts) (same_first t k e d b c) b.limits in
-      let few : operators_before n k.late ≤ l.operators = subst (λ (i : ℕ). i ≤ l.operators) d.counts (few_first l 0 d.done (marked_by k t c.pending ∷ []) all (omega arith)) in
-      let last : KeepsLimits l (operators_before n k.late) (marked_by k t c.pending ∷ []) =
-          subst (λ (i : ℕ). KeepsLimits l i (marked_by k t c.pending ∷ [])) d.counts (keeps_last l 0 d.done (marked_by k t c.pending ∷ []) all) in
-      let yes : keeps l n k ≡ true = keeps_so l n k (record {
-        shallow = last.0;
-        few = few;
-        fewer = no_fewer (operators_before n k.late) l.operators k c.pending (steady_step m t k e).quiet last.2 few;
-      }) in
-      cc
+too_deep {l} {m} {n} {before} t k s e f b =
+    go (based_for t k s e) (came b.first b.rest b.whole) where
+      go : Based l m k.late (operators_before n k.late) before → Came b.first → ⊥
+      go d c =
+          let all : KeepsLimits l 0 (d.done ++ marked_by k t c.pending ∷ []) =
+          subst (λ (ts : List Marked). KeepsLimits l 0 ts) (same_first t k e d b c) b.limits in
+          let few : operators_before n k.late ≤ l.operators =
+          subst (λ (i : ℕ). i ≤ l.operators) d.counts
+          (few_first l 0 d.done (marked_by k t c.pending ∷ []) all (omega arith)) in
+          let last : KeepsLimits l (operators_before n k.late) (marked_by k t c.pending ∷ []) =
+          subst (λ (i : ℕ). KeepsLimits l i (marked_by k t c.pending ∷ [])) d.counts
+          (keeps_last l 0 d.done (marked_by k t c.pending ∷ []) all) in
+          let yes : keeps l n k ≡ true = keeps_so l n k (record {
+            shallow = last.0;
+            few = few;
+            fewer =
+                no_fewer (operators_before n k.late) l.operators k c.pending (steady_step m t k e).quiet
+                last.2 few;
+          }) in
+          cc
 
 -- an end that the machine doesn't accept is too early
-too_early : {l : Limits} {m : State} {n : ℕ} {before : List Token} → Stand l m n before → finished m ≡ None → Derives l token_of WholeExpression before → ⊥
+too_early : {l : Limits} {m : State} {n : ℕ} {before : List Token} → Stand l m n before
+    → finished m ≡ None → Derives l token_of WholeExpression before → ⊥
 too_early {m = m} {before = before} s e d = go (complete d.whole.reads) where
   go : Completes d.first d.whole.tree → ⊥
   go h =
       let there : reached (want []) (tokens_of d.first) ≡ Some h.there = reached_all h.moves in
       let here : reached (want []) (tokens_of s.base.done) ≡ Some m = reached_all s.base.moves in
-      let same : reached (want []) (tokens_of d.first) ≡ reached (want []) (tokens_of s.base.done) = ap (reached (want [])) (d.tokens ∙ sym s.base.tokens) in
+      let same : reached (want []) (tokens_of d.first) ≡ reached (want []) (tokens_of s.base.done) =
+      ap (reached (want [])) (d.tokens ∙ sym s.base.tokens) in
       let one : m ≡ h.there = cc in
       let both : finished m ≡ finished h.there = ap finished one in
       let is = h.ends in
@@ -349,28 +426,49 @@ too_early {m = m} {before = before} s e d = go (complete d.whole.reads) where
 
 ------ the answer
 
-ended : {l : Limits} {m : State} {n : ℕ} {before : List Token} (i : ℕ) → Stand l m n before → length before ≡ i → Says l before (at_end i (finished m))
+ended : {l : Limits} {m : State} {n : ℕ} {before : List Token} (i : ℕ) → Stand l m n before
+    → length before ≡ i → Says l before (at_end i (finished m))
 ended {l} {m} {n} {before} i s e =
     elim (finished m) as (λ o. finished m ≡ o → Says l before (at_end i o)) [
-      | None ↦ λ f. subst (λ (j : ℕ). Refuses l token_of WholeExpression before j Syntax) e (early before (begins_within s) (λ d. too_early s f d))
-      | Some a ↦ λ f. record { first = s.base.done; tokens = s.base.tokens; reads = sound s.base.moves f; limits = s.base.limits s.few }
+      | None ↦ λ f. subst (λ (j : ℕ). Refuses l token_of WholeExpression before j Syntax) e
+          (early before (begins_within s) (λ d. too_early s f d))
+      | Some a ↦ λ f. record {
+        first = s.base.done;
+        tokens = s.base.tokens;
+        reads =
+            sound s.base.moves f;
+        limits = s.base.limits s.few;
+      }
     ] refl
 
-judged : (l : Limits) (ts before : List Token) (m : State) (n i : ℕ) → Stand l m n before → length before ≡ i → Says l (before ++ ts) (answer l m n i ts)
-judged l [] before m n i s e = subst (λ (us : List Token). Says l us (at_end i (finished m))) (sym (append-nil before)) (ended i s e)
+judged : (l : Limits) (ts before : List Token) (m : State) (n i : ℕ) → Stand l m n before
+    → length before ≡ i → Says l (before ++ ts) (answer l m n i ts)
+judged l [] before m n i s e =
+    subst (λ (us : List Token). Says l us (at_end i (finished m))) (sym (append-nil before))
+    (ended i s e)
 judged l (t ∷ ts) before m n i s e =
     elim (step m t) as (λ o. step m t ≡ o → Says l (before ++ t ∷ ts) (elim o [
       | None ↦ Refused i Syntax
-      | Some k ↦ cond (keeps l n k) (answer l k.state (operators_after n k) (suc i) ts) (Refused i TooDeep)
+      | Some k ↦ cond (keeps l n k) (answer l k.state (operators_after n k) (suc i) ts)
+          (Refused i TooDeep)
     ])) [
-      | None ↦ λ f. subst (λ (j : ℕ). Refuses l token_of WholeExpression (before ++ t ∷ ts) j Syntax) e (wrong before ts t (begins_within s) (refused t s f))
-      | Some k ↦ λ f. elim (keeps l n k) as (λ b. keeps l n k ≡ b → Says l (before ++ t ∷ ts) (cond b (answer l k.state (operators_after n k) (suc i) ts) (Refused i TooDeep))) [
-        | true ↦ λ g. subst (λ (us : List Token). Says l us (answer l k.state (operators_after n k) (suc i) ts)) (append_assoc before (t ∷ []) ts)
-            (judged l ts (before ++ t ∷ []) k.state (operators_after n k) (suc i) (stand_next t k s f (kept l n k g)) (length-append before (t ∷ []) ∙ (let h = e in omega arith)))
-        | false ↦ λ g. subst (λ (j : ℕ). Refuses l token_of WholeExpression (before ++ t ∷ ts) j TooDeep) e (deep before ts t (begins_within s)
-            (begins_from ((based_for t k s f).done ++ marked_by k t false ∷ []) (one_token (based_for t k s f).done (marked_by k t false) (based_for t k s f).tokens)
-            (appended (based_for t k s f).moves (takes (quietly t k f) stays))) (too_deep t k s f g))
-      ] refl
+      | None ↦ λ f. subst (λ (j : ℕ). Refuses l token_of WholeExpression (before ++ t ∷ ts) j
+          Syntax) e (wrong before ts t (begins_within s) (refused t s f))
+      | Some k ↦ λ f. elim (keeps l n k) as (λ b. keeps l n k ≡ b
+          → Says l (before ++ t ∷ ts) (cond b (answer l k.state (operators_after n k) (suc i) ts)
+          (Refused i TooDeep))) [
+            | true ↦ λ g. subst (λ (us : List Token). Says l us
+                (answer l k.state (operators_after n k) (suc i) ts)) (append_assoc before (t ∷ []) ts)
+                (judged l ts (before ++ t ∷ []) k.state (operators_after n k) (suc i)
+                (stand_next t k s f (kept l n k g))
+                (length-append before (t ∷ []) ∙ (let h = e in omega arith)))
+            | false ↦ λ g. subst (λ (j : ℕ). Refuses l token_of WholeExpression (before ++ t ∷ ts) j
+                TooDeep) e (deep before ts t (begins_within s)
+                (begins_from ((based_for t k s f).done ++ marked_by k t false ∷ [])
+                (one_token (based_for t k s f).done (marked_by k t false) (based_for t k s f).tokens)
+                (appended (based_for t k s f).moves (takes (quietly t k f) stays)))
+                (too_deep t k s f g))
+          ] refl
     ] refl
 
 -- the answer is the tree that the tokens derive, or their first refusal
@@ -379,28 +477,44 @@ answered l ts = judged l ts [] (want []) 0 0 (start l) refl
 
 ------ what is derived
 
-answer_step : (l : Limits) (m : State) (n i : ℕ) (t : Token) (ts : List Token) (k : Taken) → step m t ≡ Some k → keeps l n k ≡ true
+pub answer_step : (l : Limits) (m : State) (n i : ℕ) (t : Token) (ts : List Token) (k : Taken)
+    → step m t ≡ Some k → keeps l n k ≡ true
     → answer l m n i (t ∷ ts) ≡ answer l k.state (operators_after n k) (suc i) ts
-answer_step l m n i t ts k e f = ap (λ o. next o) e ∙ ap (λ b. cond b (answer l k.state (operators_after n k) (suc i) ts) (Refused i TooDeep)) f where
-  next : Option Taken → Answer
-  next None = Refused i Syntax
-  next (Some k) = cond (keeps l n k) (answer l k.state (operators_after n k) (suc i) ts) (Refused i TooDeep)
+answer_step l m n i t ts k e f = ap (λ o. next o) e
+    ∙ ap (λ b. cond b (answer l k.state (operators_after n k) (suc i) ts) (Refused i TooDeep)) f
+  where
+    next : Option Taken → Answer
+    next None = Refused i Syntax
+    next (Some k) =
+        cond (keeps l n k) (answer l k.state (operators_after n k) (suc i) ts) (Refused i TooDeep)
 
-answer_run : (l : Limits) {m o : State} {x z : Bool} {ts : List Marked} (n i : ℕ) (a : Expr) → Moves m x ts o z [] → z ≡ false → KeepsLimits l (operators_before n x) ts
-    → operators_before n x ≤ l.operators → finished o ≡ Some a → answer l m n i (tokens_of ts) ≡ Accepted a
+answer_run : (l : Limits) {m o : State} {x z : Bool} {ts : List Marked} (n i : ℕ) (a : Expr)
+    → Moves m x ts o z [] → z ≡ false → KeepsLimits l (operators_before n x) ts
+    → operators_before n x ≤ l.operators → finished o ≡ Some a
+    → answer l m n i (tokens_of ts) ≡ Accepted a
 answer_run l n i a stays w h f e = ap (at_end i) e
 answer_run l n i a (takes {m = m} {n = o} {x = x} {t = t} {ts = ts} (taken b z g) r) w h f e =
-    answer_step l m n i t.token (tokens_of ts) (record { state = o; depth = t.depth; role = t.role; late = x; sized = b }) g
-    (keeps_so l n (record { state = o; depth = t.depth; role = t.role; late = x; sized = b }) (record { shallow = h.0; few = f; fewer = h.2 }))
+    answer_step l m n i t.token (tokens_of ts)
+    (record { state = o; depth = t.depth; role = t.role; late = x; sized = b }) g
+    (keeps_so l n (record { state = o; depth = t.depth; role = t.role; late = x; sized = b })
+    (record { shallow = h.0; few = f; fewer = h.2 }))
     ∙ answer_run l (operators_with (operators_before n x) t.role) (suc i) a r w h.3 h.2 e
-answer_run l n i a (takes {m = m} {n = o} {x = x} {t = t} {ts = ts} (taken_to_count c z g) r) w h f e =
-    let same : operators_with (operators_before n x) t.role ≡ suc (operators_before n x) = ap (λ (p : Role). operators_with (operators_before n x) p) c in
-    answer_step l m n i t.token (tokens_of ts) (record { state = o; depth = t.depth; role = inside; late = x; sized = true }) g
-    (keeps_so l n (record { state = o; depth = t.depth; role = inside; late = x; sized = true }) (record { shallow = h.0; few = f; fewer = f }))
-    ∙ answer_run l (operators_before n x) (suc i) a r w (subst (λ (j : ℕ). KeepsLimits l j ts) same h.3) (subst (λ (j : ℕ). j ≤ l.operators) same h.2) e
+answer_run l n i a (takes {m = m} {n = o} {x = x} {t = t} {ts = ts} (taken_to_count c z g) r) w h f
+    e =
+    let same : operators_with (operators_before n x) t.role ≡ suc (operators_before n x) =
+    ap (λ (p : Role). operators_with (operators_before n x) p) c in
+    answer_step l m n i t.token (tokens_of ts)
+    (record { state = o; depth = t.depth; role = inside; late = x; sized = true }) g
+    (keeps_so l n (record { state = o; depth = t.depth; role = inside; late = x; sized = true })
+    (record { shallow = h.0; few = f; fewer = f }))
+    ∙ answer_run l (operators_before n x) (suc i) a r w
+    (subst (λ (j : ℕ). KeepsLimits l j ts) same h.3)
+    (subst (λ (j : ℕ). j ≤ l.operators) same h.2) e
 
 -- what the tokens derive is the answer, so no other tree is derived
-pub derived_answer : (l : Limits) (ts : List Token) (a : Expr) → DerivesExpression l ts a → answer l (want []) 0 0 ts ≡ Accepted a
+pub derived_answer : (l : Limits) (ts : List Token) (a : Expr) → DerivesExpression l ts a
+    → answer l (want []) 0 0 ts ≡ Accepted a
 derived_answer l ts a d = go (complete d.reads) where
   go : Completes d.first a → answer l (want []) 0 0 ts ≡ Accepted a
-  go h = ap (answer l (want []) 0 0) (sym d.tokens) ∙ answer_run l 0 0 a h.moves refl d.limits (omega arith) h.ends
+  go h = ap (answer l (want []) 0 0) (sym d.tokens)
+      ∙ answer_run l 0 0 a h.moves refl d.limits (omega arith) h.ends

@@ -1,7 +1,7 @@
 -- The grammar as a whole: which tokens derive which element, which derive which program, and their
 -- first refusal.
 use Rattle.std.specs.Prelude.{◌≡◌, ℕ, Bool, true, false, List, [], ◌∷◌, codes, cond, map}
-use Rattle.std.specs.Str.{bytes_eq}
+use Rattle.hv_base.specs.Ascii.{is_among}
 use Rattle.hv_base.specs.declared.token.CTok.{CTok}
 use Rattle.hv_base.specs.declared.token.CTok.TheVariants.{Keyword, Name, Int, Char, Str, Punct}
 use Rattle.hv_base.specs.declared.why.Why.{Why}
@@ -24,11 +24,6 @@ foreign_names =
     ∷ codes "__FILE__" ∷ codes "__LINE__" ∷ codes "__DATE__" ∷ codes "__TIME__" ∷ codes "_Pragma"
     ∷ codes "goto"
     ∷ codes "float" ∷ codes "double" ∷ codes "volatile" ∷ codes "_Complex" ∷ codes "_Imaginary" ∷ []
-
--- whether a name is among others
-abbrev pub is_among : List ℕ → List (List ℕ) → Bool
-is_among n [] = false
-is_among n (m ∷ ms) = cond (bytes_eq n m) true (is_among n ms)
 
 -- a name, with or without the mark of a typedef name
 abbrev pub name_symbol : List ℕ → Bool → Symbol

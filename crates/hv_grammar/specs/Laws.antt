@@ -1,5 +1,6 @@
 -- What is proved of the grammar.
 use Rattle.std.specs.Prelude.{◌≡◌, ℕ, Bool, false, List, [], map, Some}
+use Rattle.hv_base.specs.declared.why.Why.{Why}
 use Rattle.hv_ctree.specs.tree.Expressions.{Expr}
 use Rattle.hv_ctree.specs.tree.Statements.{Skeleton}
 use Rattle.hv_grammar.specs.Symbols.{Token, Marked}
@@ -52,3 +53,8 @@ AnswersAreRight = (l : Limits) (ts : List Token) → Says l ts (answer l (want [
 abbrev pub DerivedIsAnswered : Type 0
 DerivedIsAnswered = (l : Limits) (ts : List Token) (a : Expr) → DerivesExpression l ts a
     → answer l (want []) 0 0 ts ≡ Accepted a
+
+-- a first refusal of tokens is the machine's answer, so they have no other and derive no tree
+abbrev pub RefusedIsAnswered : Type 0
+RefusedIsAnswered = (l : Limits) (ts : List Token) (i : ℕ) (why : Why)
+    → RefusesExpression l ts i why → answer l (want []) 0 0 ts ≡ Refused i why

@@ -50,6 +50,7 @@ abbrev pub name_first : Declarator → Option (List ℕ)
 name_first (declarator p no_pointers (named q n) ss) = Some n
 name_first _ = None
 
+-- the name of a declarator (6.7.5): None in an abstract one
 abbrev mutual
   -- the name that a declarator declares
   pub declared_by : Declarator → Option (List ℕ)
@@ -83,6 +84,8 @@ may_group true x xs = may_declare false (name_first x) xs
 abbrev pub then : Option (List Name) → (List Name → Option (List Name)) → Option (List Name)
 then o f = option_and_then f o
 
+-- the names in scope after expressions and declarations, in order; None where a mark of a typedef
+-- name is wrong (6.2.1, 6.7.7)
 abbrev mutual
   -- an expression
   pub in_expression : Expr → List Name → Option (List Name)
@@ -223,6 +226,7 @@ in_designation no_designation xs = Some xs
 in_designation (of_index p a) xs = in_expression a xs
 in_designation (of_member p n) xs = Some xs
 
+-- the same of initialisers (6.7.8)
 abbrev mutual
   -- an initialiser
   pub in_initializer : Initializer → List Name → Option (List Name)
@@ -268,6 +272,7 @@ abbrev pub in_option : Option Expr → List Name → Option (List Name)
 in_option None xs = Some xs
 in_option (Some a) xs = in_expression a xs
 
+-- the same of statements (6.8)
 abbrev mutual
   -- a statement; each selection and iteration statement is a block, and so is each statement within
   -- one (6.8.4, 6.8.5)
@@ -333,6 +338,7 @@ or_first (found s) ss = found s
 or_first none_yet ss = first_suffix ss
 or_first stopped ss = stopped
 
+-- the suffix that says what a declared name is (6.7.5)
 abbrev mutual
   -- the first suffix after the declared name, with no `*` between
   pub own_suffix : Declarator → Found

@@ -57,6 +57,7 @@ pub record Marked : Type 0 where
   pub role : Role
   pub statements : ℕ
 
+-- a terminal at a place
 abbrev pub token_at : Place → Symbol → Token
 token_at p s = record { symbol = s; place = p }
 
@@ -76,33 +77,43 @@ counted d p s = at operator d p s
 pub data BeginsAt : Place → List Marked → Type 0 where
   at_first : (t : Marked) (ts : List Marked) → BeginsAt t.token.place (t ∷ ts)
 
+-- `(` (6.4.6)
 abbrev pub left_paren : Symbol
 left_paren = sign puncts.LeftParenthesis
 
+-- `)` (6.4.6)
 abbrev pub right_paren : Symbol
 right_paren = sign puncts.RightParenthesis
 
+-- `[` (6.4.6)
 abbrev pub left_bracket : Symbol
 left_bracket = sign puncts.LeftBracket
 
+-- `]` (6.4.6)
 abbrev pub right_bracket : Symbol
 right_bracket = sign puncts.RightBracket
 
+-- `{` (6.4.6)
 abbrev pub left_brace : Symbol
 left_brace = sign puncts.LeftBrace
 
+-- `}` (6.4.6)
 abbrev pub right_brace : Symbol
 right_brace = sign puncts.RightBrace
 
+-- `,` (6.4.6)
 abbrev pub comma_sign : Symbol
 comma_sign = sign puncts.Comma
 
+-- `:` (6.4.6)
 abbrev pub colon : Symbol
 colon = sign puncts.Colon
 
+-- `;` (6.4.6)
 abbrev pub semicolon : Symbol
 semicolon = sign puncts.Semicolon
 
+-- `=` (6.4.6)
 abbrev pub equal_sign : Symbol
 equal_sign = sign puncts.Equal
 

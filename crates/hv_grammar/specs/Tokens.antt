@@ -33,6 +33,7 @@ abbrev pub last_ellipsis : Bool → List Symbol
 last_ellipsis false = []
 last_ellipsis true = comma_sign ∷ sign puncts.Ellipsis ∷ []
 
+-- the tokens of expressions, specifiers and declarators (Annex A.2.1, A.2.2)
 abbrev mutual
   -- an expression
   pub tokens_of : Expr → List Symbol
@@ -178,6 +179,7 @@ designation_tokens no_designation = []
 designation_tokens (of_index p a) = left_bracket ∷ (tokens_of a ++ right_bracket ∷ equal_sign ∷ [])
 designation_tokens (of_member p n) = sign puncts.Dot ∷ name n ∷ equal_sign ∷ []
 
+-- the tokens of initialisers (6.7.8)
 abbrev mutual
   -- an initialiser
   pub initializer_tokens : Initializer → List Symbol

@@ -24,6 +24,7 @@ pub data Mode : Type 0 where
   only_abstract : Mode
   either : Mode
 
+-- a production that was begun, with all that was read of it before the part that is read now
 pub data Frame : Type 0 where
   -- `(`, and `(` directly after `sizeof`, which may belong to a type
   Parenthesis : Place → Frame
@@ -195,6 +196,7 @@ pub data At : Type 0 where
   ParameterNext : At
   AfterEllipsis : At
 
+-- the machine: its frames, innermost first, and where it is
 pub record State : Type 0 where
   pub stack : List Frame
   pub at : At

@@ -21,12 +21,15 @@ use Rattle.hv_grammar.specs.Symbols.{Symbol, keyword, name, marked, number, text
 use Rattle.hv_grammar.specs.Expressions.{stars, braced, has_type}
 use Rattle.hv_grammar.specs.machine.Frames.{Owner, of_type_name, of_parameter, of_member, Mode, only_named, only_abstract, either, Frame, Parenthesis, AfterSizeof, Subscript, Callee, Calling, Prefix, Unary, Sizeof, SizeofType, CastType, Cast, Then, Else, Specified, Body, Listing, Valued, Owned, OwnedMembers, Group, Length, Parameters, hole_of, made, weigh, depth, within, completes, plug, At, Want, Have, Selecting, Words, AfterCompound, AfterTag, AfterEnum, AfterEnumTag, MemberStart, EnumeratorStart, AfterEnumerator, Pointing, Opened, Direct, Bracket, ParametersStart, ParameterNext, AfterEllipsis, State, Infix, by_operator, by_assignment, by_question, by_comma, by_bracket, by_parenthesis, left, reach, makes, begun, weigh_at}
 
+-- the machine within these frames
 abbrev pub state : List Frame → At → State
 state stack at = record { stack = stack; at = at }
 
+-- within these frames, before an operand
 abbrev pub want : List Frame → State
 want stack = state stack Want
 
+-- within these frames, after an operand of the level
 abbrev pub have : ℕ → List Frame → Expr → State
 have k stack a = state stack (Have k a)
 
@@ -39,12 +42,15 @@ pub record Taken : Type 0 where
   pub late : Bool
   pub sized : Bool
 
+-- a token was taken in the role, with so many open at it
 abbrev pub took : Role → State → ℕ → Option Taken
 took r m d = Some (record { state = m; depth = d; role = r; late = false; sized = false })
 
+-- a token of an expression that is no counted operator
 abbrev pub quiet : State → ℕ → Option Taken
 quiet m d = took inside m d
 
+-- a counted operator of an expression
 abbrev pub loud : State → ℕ → Option Taken
 loud m d = took operator m d
 
@@ -55,6 +61,8 @@ lately (Some k) = Some (record k { late = true })
 
 ------ tables of signs and words
 
+-- what a sign goes on with after a left operand (6.5.2, 6.5.5 to 6.5.17); None for `,`, which may
+-- end an argument too, and where it goes on with nothing
 abbrev pub infix_of : Punct → Option Infix
 infix_of puncts.Star = Some (by_operator binaries.Multiply)
 infix_of puncts.Slash = Some (by_operator binaries.Divide)
@@ -117,6 +125,7 @@ may_stand o (storage p c) = false
 may_stand o (inline p) = false
 may_stand o x = true
 
+-- the qualifier that a keyword is (6.7.3); None where it is none
 abbrev pub qualifier_of : Keyword → Option TypeQualifier
 qualifier_of keywords.Const = Some Const
 qualifier_of keywords.Restrict = Some Restrict
@@ -128,11 +137,13 @@ qualifier_of _ = None
 abbrev pub ends : ℕ → Frame → Bool
 ends k f = cond (completes f) (nat_le k (made f)) false
 
+-- what is left once frames ended: the frames, and an operand of the level
 pub record Reduced : Type 0 where
   pub stack : List Frame
   pub level : ℕ
   pub operand : Expr
 
+-- the three of them
 abbrev pub reduced : List Frame → ℕ → Expr → Reduced
 reduced stack l a = record { stack = stack; level = l; operand = a }
 
@@ -156,12 +167,14 @@ worded o p xs stack (Some x) other =
     cond (may_stand o x) (plainly stack (state stack (Words o p (then_specifier xs x)))
     (depth stack)) other
 
+-- a typedef name is a type specifier where no other stands before it (6.7.2, 6.7.7)
 abbrev pub marked_word : Owner → Place → Specifiers → List Frame → Place → List ℕ → Option Taken
     → Option Taken
 marked_word o p xs stack q n other =
     cond (has_type xs) other (plainly stack (state stack
     (Words o p (then_specifier xs (of_type q (typedef_name q n))))) (depth stack))
 
+-- a keyword that may be a specifier or begin one (6.7.1 to 6.7.4)
 abbrev pub keyword_word : Owner → Place → Specifiers → List Frame → Place → Keyword → Option Taken
     → Option Taken
 keyword_word o p xs stack q keywords.Struct other =
@@ -185,9 +198,11 @@ first_word o stack q s other = specifier_at o q no_specifiers stack q s other
 
 ------ expressions: before an operand
 
+-- a primary expression of one token (6.5.1)
 abbrev pub leaf : List Frame → Expr → Option Taken
 leaf stack a = quiet (have 15 stack a) (depth stack)
 
+-- a token that begins the frame, and counts
 abbrev pub pushed : List Frame → Frame → Option Taken
 pushed stack f = loud (want (f ∷ stack)) (weigh f (depth stack))
 
@@ -202,11 +217,13 @@ paren_at (Sizeof p ∷ stack) q = Some (record {
 })
 paren_at stack q = pushed stack (Parenthesis q)
 
+-- `)` directly after the `(` of a call (6.5.2.2)
 abbrev pub close_call : List Frame → Option Taken
 close_call (Callee a ∷ stack) =
     quiet (have 15 stack (call (place_of a) a no_arguments)) (suc (depth stack))
 close_call _ = None
 
+-- a sign that begins an operand (6.5.1, 6.5.3)
 abbrev pub want_sign : List Frame → Place → Punct → Option Taken
 want_sign stack p puncts.LeftParenthesis = paren_at stack p
 want_sign stack p puncts.RightParenthesis = close_call stack
@@ -220,6 +237,7 @@ want_sign stack p puncts.Tilde = pushed stack (Unary p Complement)
 want_sign stack p puncts.Not = pushed stack (Unary p Not)
 want_sign stack p _ = None
 
+-- a keyword that begins an operand: `sizeof` (6.5.3.4)
 abbrev pub want_keyword : List Frame → Place → Keyword → Option Taken
 want_keyword stack p keywords.Sizeof = pushed stack (Sizeof p)
 want_keyword stack p _ = None
@@ -238,6 +256,7 @@ abbrev pub cast_at : List Frame → Place → Place → Symbol → Option Taken 
 cast_at stack q p s other =
     cond (nat_le (hole_of stack) 13) (first_word of_type_name (CastType q ∷ stack) p s other) other
 
+-- a token where an operand is wanted; after `(` it may be a type's name (6.5.3.4, 6.5.4)
 abbrev pub step_want : List Frame → Place → Symbol → Option Taken
 step_want (Parenthesis q ∷ stack) p s = cast_at stack q p s (operand_at (Parenthesis q ∷ stack) p s)
 step_want (AfterSizeof q ∷ Sizeof r ∷ stack) p s =
@@ -247,14 +266,18 @@ step_want stack p s = operand_at stack p s
 
 ------ expressions: after an operand
 
+-- the sign goes on, where the frame around admits what it makes; what the token does otherwise comes
+-- last
 abbrev pub infix_at : Infix → Reduced → Option Taken → Option Taken
 infix_at i r other =
     cond (nat_le (hole_of r.stack) (makes i))
     (loud (want (begun i r.operand ∷ r.stack)) (weigh_at i (depth r.stack))) other
 
+-- the same, where the operand is of the level that the sign wants on its left
 abbrev pub infix_of_level : Infix → Reduced → Option Taken
 infix_of_level i r = cond (nat_le (left i) r.level) (infix_at i r None) None
 
+-- a sign after an operand, once what ends before it has ended
 abbrev pub goes_on : Infix → ℕ → List Frame → Expr → Option Taken
 goes_on i k stack a = infix_of_level i (reduce (reach i) stack k a)
 
@@ -264,10 +287,12 @@ specified (Specified o p xs ∷ stack) q d x =
     plainly stack (state stack (Words o p (then_specifier xs x))) d
 specified _ q d x = None
 
+-- the `}` of an enumeration, and whether a comma stands before it (6.7.2.2)
 abbrev pub listed_at : List Frame → Place → MayTag → Enumerators → Bool → Option Taken
 listed_at stack q t es b =
     specified stack q (braced (depth stack)) (of_type q (enumeration q (listed q t es b)))
 
+-- a comma that ends an argument (6.5.2) or an enumerator's value (6.7.2.2)
 abbrev pub argument_at : List Frame → Expr → Option Taken
 argument_at (Callee a ∷ stack) b =
     quiet (want (Calling a (then_argument no_arguments b) ∷ stack)) (suc (depth stack))
@@ -278,9 +303,11 @@ argument_at (Valued p n ∷ Listing q t es ∷ stack) b =
     (braced (depth stack))
 argument_at _ b = None
 
+-- a comma after an operand: an operator where one may stand (6.5.17)
 abbrev pub comma_at : Reduced → Option Taken
 comma_at r = infix_at by_comma r (argument_at r.stack r.operand)
 
+-- `)` of a parenthesis (6.5.1) or of a call (6.5.2.2)
 abbrev pub close_at : List Frame → Expr → Option Taken
 close_at (Parenthesis p ∷ stack) b = quiet (have 15 stack (parenthesized p b)) (suc (depth stack))
 close_at (Callee a ∷ stack) b =
@@ -289,6 +316,7 @@ close_at (Calling a xs ∷ stack) b =
     quiet (have 15 stack (call (place_of a) a (then_argument xs b))) (suc (depth stack))
 close_at _ b = None
 
+-- `]` of a subscript (6.5.2.1) or of an array declarator (6.7.5.2)
 abbrev pub bracket_at : List Frame → Expr → Option Taken
 bracket_at (Subscript a ∷ stack) b =
     quiet (have 15 stack (subscript (place_of a) a b)) (suc (depth stack))
@@ -297,15 +325,18 @@ bracket_at (Length m p ps c ss q qs ∷ stack) b =
     (suc (stars ps (depth stack)))
 bracket_at _ b = None
 
+-- `}` after an enumerator's value (6.7.2.2)
 abbrev pub brace_at : List Frame → Expr → Option Taken
 brace_at (Valued p n ∷ Listing q t es ∷ stack) b =
     listed_at stack q t (then_enumerator es (valued p n b)) false
 brace_at _ b = None
 
+-- `:` of a conditional expression (6.5.15)
 abbrev pub colon_at : List Frame → Expr → Option Taken
 colon_at (Then a ∷ stack) b = quiet (want (Else a b ∷ stack)) (suc (depth stack))
 colon_at _ b = None
 
+-- what a token does with the frames and the operand that are left
 abbrev pub after : (List Frame → Expr → Option Taken) → Reduced → Option Taken
 after f r = f r.stack r.operand
 
@@ -313,10 +344,12 @@ after f r = f r.stack r.operand
 abbrev pub after_postfix : ℕ → Option Taken → Option Taken
 after_postfix k o = cond (nat_le 15 k) o None
 
+-- a sign after an operand, if it is one that goes on
 abbrev pub goes_by : Option Infix → ℕ → List Frame → Expr → Option Taken
 goes_by None k stack a = None
 goes_by (Some i) k stack a = goes_on i k stack a
 
+-- a sign after an operand
 abbrev pub have_sign : List Frame → ℕ → Expr → Punct → Option Taken
 have_sign stack k a puncts.Comma = comma_at (reduce 0 stack k a)
 have_sign stack k a puncts.RightParenthesis = after close_at (reduce 0 stack k a)
@@ -333,21 +366,25 @@ have_sign stack k a puncts.MinusMinus =
     after_postfix k (loud (have 15 stack (postfix (place_of a) Decrement a)) (depth stack))
 have_sign stack k a s = goes_by (infix_of s) k stack a
 
+-- a token after an operand: only signs may stand there
 abbrev pub step_have : List Frame → ℕ → Expr → Symbol → Option Taken
 step_have stack k a (sign s) = have_sign stack k a s
 step_have stack k a _ = None
 
+-- the member's name after `.` or `->` (6.5.2.3)
 abbrev pub step_selecting : List Frame → Selector → Expr → Symbol → Option Taken
 step_selecting stack s a (name n) = quiet (have 15 stack (member (place_of a) s a n)) (depth stack)
 step_selecting stack s a _ = None
 
 ------ declarators
 
+-- whether a declarator may have a name there
 abbrev pub may_name : Mode → Bool
 may_name only_named = true
 may_name only_abstract = false
 may_name either = true
 
+-- whether it may have none there
 abbrev pub may_lack_name : Mode → Bool
 may_lack_name only_named = false
 may_lack_name only_abstract = true
@@ -376,6 +413,7 @@ after_parameter (Owned o r xs ∷ Parameters m p ps c ss b first params ∷ stac
     (then_parameter params (parameter r xs x)) false))))) (suc (stars ps (depth stack)))
 after_parameter _ x s = None
 
+-- a comma or semicolon after a member's declarator (6.7.2.1)
 abbrev pub after_member : List Frame → Declarator → Punct → Option Taken
 after_member (OwnedMembers r xs ds ∷ stack) x puncts.Comma =
     plainly stack (state (OwnedMembers r xs (then_declarator ds x) ∷ stack)
@@ -385,6 +423,7 @@ after_member (OwnedMembers r xs ds ∷ Body q k t ms ∷ stack) x puncts.Semicol
     ∷ stack) MemberStart) (suc (depth stack))
 after_member _ x s = None
 
+-- `)` after the type's name of a cast (6.5.4) or of `sizeof` (6.5.3.4)
 abbrev pub after_type_name : List Frame → MayDeclarator → Punct → Option Taken
 after_type_name (Owned o r xs ∷ CastType p ∷ stack) x puncts.RightParenthesis =
     quiet (want (Cast p (type_name r xs x) ∷ stack)) (suc (depth stack))
@@ -392,12 +431,14 @@ after_type_name (Owned o r xs ∷ SizeofType p ∷ stack) x puncts.RightParenthe
     quiet (have 14 stack (sizeof_type p (type_name r xs x))) (suc (suc (depth stack)))
 after_type_name _ x s = None
 
+-- `)` after a declarator in parentheses (6.7.5)
 abbrev pub after_group : List Frame → Declarator → Punct → Option Taken
 after_group (Group m p ps q ∷ stack) x puncts.RightParenthesis =
     plainly stack (state stack (Direct m p ps (group q x) no_suffixes))
     (suc (stars ps (depth stack)))
 after_group _ x s = None
 
+-- a sign after a declarator, or after none, by what it stands in
 abbrev pub ended : List Frame → MayDeclarator → Punct → Option Taken
 ended (Owned of_parameter r xs ∷ stack) x s = after_parameter (Owned of_parameter r xs ∷ stack) x s
 ended (Owned of_type_name r xs ∷ stack) x s = after_type_name (Owned of_type_name r xs ∷ stack) x s
@@ -412,16 +453,20 @@ only_pointers p no_pointers = no_declarator
 only_pointers p (then_pointer ps q qs) =
     some_declarator (declarator p (then_pointer ps q qs) nothing no_suffixes)
 
+-- a qualifier of the last `*` (6.7.5.1)
 abbrev pub pointing_qualifier : Mode → Place → List Frame → ℕ → Option Pointers → Option Taken
 pointing_qualifier m p stack d None = None
 pointing_qualifier m p stack d (Some ps) = plainly stack (state stack (Pointing m p ps)) d
 
+-- a keyword before the middle of a declarator
 abbrev pub pointing_keyword : Mode → Place → Pointers → List Frame → Option TypeQualifier
     → Option Taken
 pointing_keyword m p ps stack None = None
 pointing_keyword m p ps stack (Some q) =
     pointing_qualifier m p stack (stars ps (depth stack)) (qualified ps q)
 
+-- `(` at the middle: of a declarator within it, or of parameters where a name may be missing
+-- (6.7.6)
 abbrev pub opened_at : Mode → Place → Pointers → Place → List Frame → Option Taken
 opened_at only_named p ps q stack =
     plainly stack (state (Group only_named p ps q ∷ stack) (Pointing only_named q no_pointers))
@@ -429,6 +474,7 @@ opened_at only_named p ps q stack =
 opened_at m p ps q stack =
     plainly stack (state stack (Opened m p ps q)) (suc (stars ps (depth stack)))
 
+-- a sign before the middle of a declarator
 abbrev pub pointing_sign : Mode → Place → Pointers → List Frame → Place → Punct → Option Taken
 pointing_sign m p ps stack q puncts.Star =
     plainly stack (state stack (Pointing m (begins p ps q) (then_pointer ps q no_qualifiers)))
@@ -440,6 +486,7 @@ pointing_sign m p ps stack q puncts.LeftBracket =
     (suc (stars ps (depth stack)))) None
 pointing_sign m p ps stack q s = cond (may_lack_name m) (ended stack (only_pointers p ps) s) None
 
+-- a token before the middle of a declarator (6.7.5, 6.7.6)
 abbrev pub step_pointing : Mode → Place → Pointers → List Frame → Place → Symbol → Option Taken
 step_pointing m p ps stack q (name n) =
     cond (may_name m) (plainly stack (state stack
@@ -456,12 +503,14 @@ opened_sign m p ps b stack q (sign puncts.RightParenthesis) =
     (suc (stars ps (depth stack)))
 opened_sign m p ps b stack q s = step_pointing m q no_pointers (Group m p ps b ∷ stack) q s
 
+-- a token after a `(` at the middle: a specifier begins parameters (6.7.6)
 abbrev pub step_opened : Mode → Place → Pointers → Place → List Frame → Place → Symbol
     → Option Taken
 step_opened m p ps b stack q s =
     first_word of_parameter (Parameters m p ps nothing no_suffixes b q no_parameters ∷ stack) q s
     (opened_sign m p ps b stack q s)
 
+-- a token after the middle of a declarator (6.7.5)
 abbrev pub step_direct : Mode → Place → Pointers → Core → Suffixes → List Frame → Place → Symbol
     → Option Taken
 step_direct m p ps c ss stack q (sign puncts.LeftBracket) =
@@ -471,6 +520,7 @@ step_direct m p ps c ss stack q (sign puncts.LeftParenthesis) =
 step_direct m p ps c ss stack q (sign s) = ended stack (some_declarator (declarator p ps c ss)) s
 step_direct m p ps c ss stack q _ = None
 
+-- a qualifier after `[` (6.7.5.2); what the keyword does otherwise comes last
 abbrev pub bracket_keyword : Mode → Place → Pointers → Core → Suffixes → Place → Qualifiers
     → List Frame → Option TypeQualifier → Option Taken → Option Taken
 bracket_keyword m p ps c ss b qs stack None other = other
@@ -478,6 +528,7 @@ bracket_keyword m p ps c ss b qs stack (Some x) other =
     plainly stack (state stack (Bracket m p ps c ss b (then_qualifier qs x)))
     (suc (stars ps (depth stack)))
 
+-- a token after the `[` of an array declarator (6.7.5.2)
 abbrev pub step_bracket : Mode → Place → Pointers → Core → Suffixes → Place → Qualifiers
     → List Frame → Place → Symbol → Option Taken
 step_bracket m p ps c ss b qs stack q (sign puncts.RightBracket) =
@@ -488,6 +539,7 @@ step_bracket m p ps c ss b qs stack q (keyword k) =
     (operand_at (Length m p ps c ss b qs ∷ stack) q (keyword k))
 step_bracket m p ps c ss b qs stack q s = operand_at (Length m p ps c ss b qs ∷ stack) q s
 
+-- `)` directly after the `(` of a function declarator (6.7.5.3)
 abbrev pub no_parameters_at : Mode → Place → Pointers → Core → Suffixes → Place → List Frame
     → Symbol → Option Taken
 no_parameters_at m p ps c ss b stack (sign puncts.RightParenthesis) =
@@ -495,16 +547,19 @@ no_parameters_at m p ps c ss b stack (sign puncts.RightParenthesis) =
     (suc (stars ps (depth stack)))
 no_parameters_at m p ps c ss b stack _ = None
 
+-- the first token after the `(` of a function declarator (6.7.5.3)
 abbrev pub step_parameters : Mode → Place → Pointers → Core → Suffixes → Place → List Frame → Place
     → Symbol → Option Taken
 step_parameters m p ps c ss b stack q s =
     first_word of_parameter (Parameters m p ps c ss b q no_parameters ∷ stack) q s
     (no_parameters_at m p ps c ss b stack s)
 
+-- `...` after a comma among parameters (6.7.5)
 abbrev pub ellipsis_at : List Frame → Symbol → Option Taken
 ellipsis_at stack (sign puncts.Ellipsis) = plainly stack (state stack AfterEllipsis) (depth stack)
 ellipsis_at stack _ = None
 
+-- `)` after `, ...` (6.7.5)
 abbrev pub step_ellipsis : List Frame → Symbol → Option Taken
 step_ellipsis (Parameters m p ps c ss b first params ∷ stack) (sign puncts.RightParenthesis) =
     plainly stack (state stack (Direct m p ps c
@@ -514,6 +569,7 @@ step_ellipsis _ s = None
 
 ------ after specifiers
 
+-- a token after specifiers that is none: it begins a declarator, or stands after none
 abbrev pub words_ended : Owner → Place → Specifiers → List Frame → Place → Symbol → Option Taken
 words_ended of_type_name p xs stack q s =
     step_pointing only_abstract q no_pointers (Owned of_type_name p xs ∷ stack) q s
@@ -522,6 +578,7 @@ words_ended of_parameter p xs stack q s =
 words_ended of_member p xs stack q s =
     step_pointing only_named q no_pointers (OwnedMembers p xs no_declarators ∷ stack) q s
 
+-- a token after at least one specifier
 abbrev pub step_words : Owner → Place → Specifiers → List Frame → Place → Symbol → Option Taken
 step_words o p xs stack q s = specifier_at o p xs stack q s (words_ended o p xs stack q s)
 
@@ -530,27 +587,32 @@ abbrev pub ended_word : List Frame → Specifier → Place → Symbol → Option
 ended_word (Specified o p xs ∷ stack) x q s = step_words o p (then_specifier xs x) stack q s
 ended_word _ x q s = None
 
+-- a token after `struct` or `union` (6.7.2.1)
 abbrev pub step_compound : Place → StructOrUnion → List Frame → Place → Symbol → Option Taken
 step_compound p k stack q (name n) = plainly stack (state stack (AfterTag p k q n)) (depth stack)
 step_compound p k stack q (sign puncts.LeftBrace) =
     plainly stack (state (Body p k no_tag no_members ∷ stack) MemberStart) (suc (depth stack))
 step_compound p k stack q _ = None
 
+-- a token after the tag of a structure or union (6.7.2.1, 6.7.2.3)
 abbrev pub step_tag : Place → StructOrUnion → Place → List ℕ → List Frame → Place → Symbol
     → Option Taken
 step_tag p k r n stack q (sign puncts.LeftBrace) =
     plainly stack (state (Body p k (tag r n) no_members ∷ stack) MemberStart) (suc (depth stack))
 step_tag p k r n stack q s = ended_word stack (of_type p (compound p (mentioned p k r n))) q s
 
+-- the `}` of a structure or union with at least one member (6.7.2.1)
 abbrev pub body_ended : List Frame → Symbol → Option Taken
 body_ended (Body q k t (then_member ms m) ∷ stack) (sign puncts.RightBrace) =
     specified stack q (suc (depth stack)) (of_type q
     (compound q (defined q k t (then_member ms m))))
 body_ended _ s = None
 
+-- a token before a member, or the `}` (6.7.2.1)
 abbrev pub step_member : List Frame → Place → Symbol → Option Taken
 step_member stack q s = first_word of_member stack q s (body_ended stack s)
 
+-- a token after `enum` (6.7.2.2)
 abbrev pub step_enum : Place → List Frame → Place → Symbol → Option Taken
 step_enum p stack q (name n) = plainly stack (state stack (AfterEnumTag p q n)) (depth stack)
 step_enum p stack q (sign puncts.LeftBrace) =
@@ -558,6 +620,7 @@ step_enum p stack q (sign puncts.LeftBrace) =
     (braced (depth stack))
 step_enum p stack q _ = None
 
+-- a token after the tag of an enumeration (6.7.2.2, 6.7.2.3)
 abbrev pub step_enum_tag : Place → Place → List ℕ → List Frame → Place → Symbol → Option Taken
 step_enum_tag p r n stack q (sign puncts.LeftBrace) =
     plainly stack (state (Listing p (tag r n) no_enumerators ∷ stack) EnumeratorStart)
@@ -565,16 +628,19 @@ step_enum_tag p r n stack q (sign puncts.LeftBrace) =
 step_enum_tag p r n stack q s =
     ended_word stack (of_type p (enumeration p (listed_before p r n))) q s
 
+-- the `}` after a last comma, with at least one enumerator (6.7.2.2)
 abbrev pub listing_ended : List Frame → Option Taken
 listing_ended (Listing q t (then_enumerator es e) ∷ stack) =
     listed_at stack q t (then_enumerator es e) true
 listing_ended _ = None
 
+-- a token before an enumeration constant (6.7.2.2)
 abbrev pub step_enumerator : List Frame → Place → Symbol → Option Taken
 step_enumerator stack q (name n) = plainly stack (state stack (AfterEnumerator q n)) (depth stack)
 step_enumerator stack q (sign puncts.RightBrace) = listing_ended stack
 step_enumerator stack q _ = None
 
+-- a sign after the name of an enumeration constant (6.7.2.2)
 abbrev pub enumerator_named : List Frame → Place → List ℕ → Punct → Option Taken
 enumerator_named (Listing q t es ∷ stack) p n puncts.Equal =
     plainly stack (want (Valued p n ∷ Listing q t es ∷ stack)) (braced (depth stack))
@@ -585,12 +651,14 @@ enumerator_named (Listing q t es ∷ stack) p n puncts.RightBrace =
     listed_at stack q t (then_enumerator es (plain p n)) false
 enumerator_named _ p n s = None
 
+-- a token after the name of an enumeration constant
 abbrev pub step_enumerator_name : Place → List ℕ → List Frame → Symbol → Option Taken
 step_enumerator_name p n stack (sign s) = enumerator_named stack p n s
 step_enumerator_name p n stack _ = None
 
 ------ all
 
+-- a token, by where the machine is; None where no derivation can have it there
 abbrev pub step_at : List Frame → At → Place → Symbol → Option Taken
 step_at stack Want q s = step_want stack q s
 step_at stack (Have k a) q s = step_have stack k a s
@@ -611,6 +679,7 @@ step_at stack (ParametersStart m p ps c ss b) q s = step_parameters m p ps c ss 
 step_at stack ParameterNext q s = first_word of_parameter stack q s (ellipsis_at stack s)
 step_at stack AfterEllipsis q s = step_ellipsis stack s
 
+-- what a token with its place does
 abbrev pub step : State → Token → Option Taken
 step m t = step_at m.stack m.at t.place t.symbol
 
@@ -619,12 +688,15 @@ abbrev pub end_at : List Frame → Expr → Option Expr
 end_at [] a = Some a
 end_at (_ ∷ _) a = None
 
+-- the same, once all has ended that can
 abbrev pub after_end : Reduced → Option Expr
 after_end r = end_at r.stack r.operand
 
+-- the tree, by where the machine is
 abbrev pub finished_at : List Frame → At → Option Expr
 finished_at stack (Have k a) = after_end (reduce 0 stack k a)
 finished_at stack _ = None
 
+-- the tree, if the tokens may end here
 abbrev pub finished : State → Option Expr
 finished m = finished_at m.stack m.at
