@@ -1,4 +1,7 @@
+pub mod AnswersLemmas
 pub mod CutLemmas
+pub mod ExtendsLemmas
+pub mod LimitsLemmas
 pub mod MentionsLemmas
 pub mod SearchLemmas
 pub mod SearchOrderLemmas

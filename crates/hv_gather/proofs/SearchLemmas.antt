@@ -35,6 +35,15 @@ look_up-step bytes_of held header names i m name asked before now within next sa
     let parts : drop i names ≡ get_or names i name ∷ drop m names = rw next (drop-cons names i name within) in
     rw (parts, same) given
 
+-- the search for a header asks for the next name first
+pub look_up-here : {X : Type 0} (bytes_of : X → List ℕ) (held : List ℕ → Option (List ℕ)) (header : List ℕ) (names : List X) (i m : ℕ) (name : X) (asked : List ℕ) (before : Search)
+    → i < length names → m ≡ suc i → bytes_of (get_or names i name) ≡ asked
+    → look_up held header (map bytes_of (drop i names)) before
+    ≡ ask asked (held asked) (lookup (bytes_eq asked) before.entries) (look_up held header (map bytes_of (drop m names))) before
+look_up-here bytes_of held header names i m name asked before within next same =
+    let parts : drop i names ≡ get_or names i name ∷ drop m names = rw next (drop-cons names i name within) in
+    rw (parts, same) refl
+
 -- one mention deeper
 pub deepen-next : (n : ℕ) (held : List ℕ → Option (List ℕ)) (dirs : List (List ℕ)) (search : Search)
     → deepen (suc n) held dirs search ≡ deepen n held dirs (follow_all held dirs search.waiting (record search { waiting = [] }))

@@ -1,2 +1,3 @@
 -- The steps of the search.
+pub mod Searches
 pub mod Steps

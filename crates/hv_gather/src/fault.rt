@@ -9,9 +9,8 @@ pub enum GatherFault {
     Read { name: Text },
     /// There is no main file.
     MainAbsent,
-    /// The file of this name has `length` bytes, and with it the files have `total` bytes together:
-    /// the
-    /// one is more than a file may have, or the other more than all files may have.
+    /// The file of this name has `length` bytes, and all files up to it have `total` bytes: the one
+    /// is more than a file may have, or the other more than all files may have together.
     TooBig { name: Text, length: u64, total: u64 },
     /// Memory ran out. It may come at any point.
     Memory,

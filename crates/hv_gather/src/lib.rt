@@ -6,7 +6,8 @@ ghost use Rattle.std.specs.String.{string_bytes};
 ghost use Rattle.hv_base.specs.Bundles.{HasMain};
 ghost use Rattle.hv_outside.specs.Count.{Rose};
 ghost use Rattle.hv_outside.specs.Files.{Keeps};
-ghost use Rattle.hv_gather.specs.Causes.{IsCaused, IsMainAbsent};
+ghost use Rattle.hv_gather.specs.Causes.{Answers, IsCaused, IsMainAbsent, told_answer};
+ghost use Rattle.hv_gather.specs.Limits.{first_beyond};
 ghost use Rattle.hv_plain.specs.gathering.Told.{told};
 
 mod candidate;
@@ -18,6 +19,7 @@ pub use fault::GatherFault;
 use hv_base::{Bundle, MOST_INCLUDES};
 use hv_outside::Files;
 use search::Search;
+pub use search::gather_plainly;
 use std::alloc::Global;
 
 /// The main file with all files that it may include: those that its `#include` lines mention, those
@@ -33,6 +35,13 @@ pub fn gather<F: Files>(
     // find.
     ensures ok { IsTrue (F.state files.old).told → IfOk result (λ bundle. bundle
         ≡ told (F.state files.old).held main.now (map string_bytes dirs.now)) }
+    // There, which answer comes is told: no main file, the first file that is too big with its
+    // total, or the bundle; unless a read failed or memory ran out.
+    ensures answer { IsTrue (F.state files.old).told
+        → Answers (told_answer (F.state files.old).held main.now
+        (map string_bytes dirs.now)) result }
+    // Each file of a bundle, and all of them together, are within the limits.
+    ensures within { IfOk result (λ bundle. first_beyond bundle.entries 0 ≡ None) }
     ensures main { IfOk result HasMain }
     ensures names { IfOk result (λ bundle. (bundle.main ≡ main.now) × (bundle.dirs
         ≡ map string_bytes dirs.now)) }

@@ -113,5 +113,8 @@ impl Model for Reached {
 
     ghost Value = { telling.Reached };
 
-    ghost view = { λ reached. record { name = string_bytes reached.name; mentioned = reached.mentioned } };
+    ghost view = { λ reached. record {
+      name = string_bytes reached.name;
+      mentioned = reached.mentioned;
+    } };
 }

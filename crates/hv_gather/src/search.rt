@@ -1,4 +1,4 @@
-ghost use Rattle.std.specs.Prelude.{◌≡◌, ◌<◌, ◌⊎◌, ℕ, List as ListOf, [], ◌∷◌, ◌++◌, Option as OptionOf, Some, None, IfOk, IfErr, OnOk, OnErr, IsTrue, length, map};
+ghost use Rattle.std.specs.Prelude.{◌≡◌, ◌<◌, ◌≤◌, ◌⊎◌, ℕ, List as ListOf, [], ◌∷◌, ◌++◌, Option as OptionOf, Some, None, IfOk, IfErr, OnOk, OnErr, IsTrue, length, map};
 ghost use Rattle.std.specs.Map.{lookup};
 ghost use Rattle.std.specs.Str.{bytes_eq};
 ghost use Rattle.std.specs.String.{string_bytes};
@@ -11,14 +11,18 @@ ghost use Rattle.hv_gather.specs.Causes.{IsAbsent, IsCaused, IsMainAbsent, IsToo
 ghost use Rattle.hv_plain.specs.gathering.Mentions.{mentions as mentioned_in};
 ghost use Rattle.hv_plain.specs.gathering.SearchOrder.{candidates as candidates_of};
 ghost use Rattle.hv_plain.specs.gathering.Told as telling;
-ghost use Rattle.hv_gather.specs.working.Steps.{Grows, IsAbsentIf, IsCausedByStep, IsNoFile, IsRead, IsTooBigWith, Leads, Tells, search_of};
+ghost use Rattle.hv_gather.specs.working.Steps.{Grows, IsAbsentIf, IsCausedByStep, IsNoFile, IsRead, IsWithin, Leads, NamesFirst, NamesThis, Tells, search_of};
+
+mod keeping;
+mod plain;
 
 use crate::GatherFault;
 use crate::candidate::candidates;
-use crate::mention::{Header, Reached, mentions};
-use hv_base::{Bundle, Held, List, MOST_BUNDLE_BYTES, MOST_NAMES, Memory, Text};
+use crate::mention::{Header, Reached};
+use hv_base::{Bundle, Held, List, Text};
 use hv_outside::{FileFault, Files, Got};
-use hv_plain::builtin_header;
+use keeping::copy;
+pub use plain::gather_plainly;
 use std::alloc::Global;
 use std::mem;
 
@@ -46,6 +50,11 @@ impl Search {
     ) -> Result<Search, GatherFault>
         ensures found { (held : ListOf ℕ → OptionOf (ListOf ℕ)) → Tells (F.state files.old) held
             → IfOk result (λ search. search_of search ≡ telling.begin main.now (held main.now)) }
+        ensures there { (held : ListOf ℕ → OptionOf (ListOf ℕ)) → Tells (F.state files.old) held
+            → IfOk result (λ search. (bytes : ListOf ℕ) × (held main.now ≡ Some bytes)) }
+        ensures within { IfOk result (λ search. IsWithin search.total search.bundle.entries) }
+        ensures too_big { (held : ListOf ℕ → OptionOf (ListOf ℕ)) → Tells (F.state files.old) held
+            → IfErr result (NamesThis main.now (held main.now) []) }
         ensures first { IfOk result (λ search. bundles.HasMain search.bundle) }
         ensures names { IfOk result (λ search. (search.bundle.main ≡ main.now)
             × (search.bundle.dirs ≡ map string_bytes dirs.now)) }
@@ -79,10 +88,16 @@ impl Search {
 
     /// Goes through all that waits; what it mentions waits then.
     pub fn deepen<F: Files>(&mut self, files: &mut F) -> Result<(), GatherFault>
+        requires within { IsWithin self.old.total self.old.bundle.entries }
         ensures found { (held : ListOf ℕ → OptionOf (ListOf ℕ)) → Tells (F.state files.old) held
             → OnOk result (search_of self.new
             ≡ telling.follow_all held self.old.bundle.dirs self.old.waiting
             (record (search_of self.old) { waiting = [] })) }
+        ensures too_big { (held : ListOf ℕ → OptionOf (ListOf ℕ)) → Tells (F.state files.old) held
+            → IfErr result (NamesFirst (telling.follow_all held self.old.bundle.dirs
+            self.old.waiting
+            (record (search_of self.old) { waiting = [] })).entries) }
+        ensures within { OnOk result (IsWithin self.new.total self.new.bundle.entries) }
         ensures caused { IfErr result (IsCausedByStep (F.state files.old) (F.state files.new)) }
         ensures keeps { Keeps (F.state files.old) (F.state files.new) }
         ensures grows { Grows self.old.bundle self.new.bundle }
@@ -96,10 +111,15 @@ impl Search {
 
     /// Looks up each header that this file mentions.
     fn follow<F: Files>(&mut self, files: &mut F, reached: &Reached) -> Result<(), GatherFault>
+        requires within { IsWithin self.old.total self.old.bundle.entries }
         ensures found { (held : ListOf ℕ → OptionOf (ListOf ℕ)) → Tells (F.state files.old) held
             → OnOk result (search_of self.new
             ≡ telling.follow held self.old.bundle.dirs reached.now.name
             reached.now.mentioned (search_of self.old)) }
+        ensures too_big { (held : ListOf ℕ → OptionOf (ListOf ℕ)) → Tells (F.state files.old) held
+            → IfErr result (NamesFirst (telling.follow held self.old.bundle.dirs
+            reached.now.name reached.now.mentioned (search_of self.old)).entries) }
+        ensures within { OnOk result (IsWithin self.new.total self.new.bundle.entries) }
         ensures caused { IfErr result (IsCausedByStep (F.state files.old) (F.state files.new)) }
         ensures keeps { Keeps (F.state files.old) (F.state files.new) }
         ensures grows { Grows self.old.bundle self.new.bundle }
@@ -118,9 +138,15 @@ impl Search {
         file: &str,
         header: &Header,
     ) -> Result<(), GatherFault>
+        requires within { IsWithin self.old.total self.old.bundle.entries }
         ensures found { (held : ListOf ℕ → OptionOf (ListOf ℕ)) → Tells (F.state files.old) held
             → OnOk result (search_of self.new ≡ telling.look_up held header.now.name
             (candidates_of self.old.bundle.dirs file.now header.now) (search_of self.old)) }
+        ensures too_big { (held : ListOf ℕ → OptionOf (ListOf ℕ)) → Tells (F.state files.old) held
+            → IfErr result (NamesFirst (telling.look_up held header.now.name
+            (candidates_of self.old.bundle.dirs file.now header.now)
+            (search_of self.old)).entries) }
+        ensures within { OnOk result (IsWithin self.new.total self.new.bundle.entries) }
         ensures caused { IfErr result (IsCausedByStep (F.state files.old) (F.state files.new)) }
         ensures keeps { Keeps (F.state files.old) (F.state files.new) }
         ensures grows { Grows self.old.bundle self.new.bundle }
@@ -137,11 +163,20 @@ impl Search {
 
     /// Whether there is a file of this name. It is read where the name wasn't asked for before.
     fn ask<F: Files>(&mut self, files: &mut F, name: &str) -> Result<bool, GatherFault>
+        requires within { IsWithin self.old.total self.old.bundle.entries }
         ensures found { (held : ListOf ℕ → OptionOf (ListOf ℕ)) (go_on : telling.Search
             → telling.Search)
             → Tells (F.state files.old) held
             → IfOk result (λ there. Leads there (telling.ask name.now (held name.now)
-            (lookup (bytes_eq name.now) self.old.bundle.entries) go_on (search_of self.old)) go_on (search_of self.new)) }
+            (lookup (bytes_eq name.now) self.old.bundle.entries) go_on (search_of self.old)) go_on
+            (search_of self.new)) }
+        ensures too_big { (held : ListOf ℕ → OptionOf (ListOf ℕ)) (go_on : telling.Search
+            → telling.Search)
+            → Tells (F.state files.old) held
+            → IfErr result (NamesFirst (telling.ask name.now (held name.now)
+            (lookup (bytes_eq name.now) self.old.bundle.entries) go_on
+            (search_of self.old)).entries) }
+        ensures within { OnOk result (IsWithin self.new.total self.new.bundle.entries) }
         ensures caused { IfErr result (IsCausedByStep (F.state files.old) (F.state files.new)) }
         ensures keeps { Keeps (F.state files.old) (F.state files.new) }
         ensures grows { Grows self.old.bundle self.new.bundle }
@@ -156,15 +191,21 @@ impl Search {
 
     /// Reads the file of a name that wasn't asked for before, and tells whether there is one.
     fn read<F: Files>(&mut self, files: &mut F, name: &str) -> Result<bool, GatherFault>
-        requires { bundles.held_at self.old.bundle name.now ≡ None }
+        requires new { bundles.held_at self.old.bundle name.now ≡ None }
+        requires within { IsWithin self.old.total self.old.bundle.entries }
         ensures found { (held : ListOf ℕ → OptionOf (ListOf ℕ)) → Tells (F.state files.old) held
-            → IfOk result (λ there. IsRead there name.now (held name.now) (search_of self.old) (search_of self.new)) }
+            → IfOk result (λ there. IsRead there name.now (held name.now) (search_of self.old)
+            (search_of self.new)) }
+        ensures too_big { (held : ListOf ℕ → OptionOf (ListOf ℕ)) → Tells (F.state files.old) held
+            → IfErr result (NamesThis name.now (held name.now) self.old.bundle.entries) }
+        ensures within { OnOk result (IsWithin self.new.total self.new.bundle.entries) }
         ensures first { IfOk result (λ there. self.old.bundle.entries ≡ [] → IsTrue there
             → name.now ≡ self.old.bundle.main
             → bundles.HasMain self.new.bundle) }
         ensures no_file { IsTrue (F.state files.old).told → (F.state files.old).held name.now ≡ None
             → (Rose (F.state files.old).faults (F.state files.new).faults → ⊥) → IsNoFile result }
-        ensures absent { IfOk result (λ there. IsAbsentIf there (F.state files.old) (F.state files.new) name.now) }
+        ensures absent { IfOk result (λ there. IsAbsentIf there (F.state files.old)
+            (F.state files.new) name.now) }
         ensures caused { IfErr result (IsCausedByStep (F.state files.old) (F.state files.new)) }
         ensures keeps { Keeps (F.state files.old) (F.state files.new) }
         ensures grows { Grows self.old.bundle self.new.bundle }
@@ -189,96 +230,4 @@ impl Search {
             Err(FileFault::Memory) => Err(GatherFault::Memory),
         }
     }
-
-    /// Keeps the bytes of a file that was found, and reaches it, unless the files are too big with
-    /// it.
-    fn keep(&mut self, name: &str, bytes: Text) -> Result<(), GatherFault>
-        requires { bundles.held_at self.old.bundle name.now ≡ None }
-        ensures ok { OnOk result (search_of self.new
-            ≡ telling.with_file name.now bytes (search_of self.old)) }
-        ensures names { OnOk result ((self.new.bundle.main ≡ self.old.bundle.main)
-            × (self.new.bundle.dirs ≡ self.old.bundle.dirs)) }
-        ensures grows { Grows self.old.bundle self.new.bundle }
-        ensures too_big { IfErr result (IsTooBigWith name.now bytes) }
-    {
-        let length = bytes.len() as u64;
-        let total = self.total.saturating_add(length);
-        if total > MOST_BUNDLE_BYTES {
-            return Err(GatherFault::TooBig {
-                name: copy(self.alloc, name)?,
-                length,
-                total,
-            });
-        }
-        let mentioned = mentions(self.alloc, bytes.as_slice())?;
-        self.reach(name, mentioned)?;
-        self.add(name, Held::Bytes(bytes))?;
-        self.total = total;
-        Ok(())
-    }
-
-    /// Adds a name that wasn't asked for before.
-    fn add(&mut self, name: &str, held: Held) -> Result<(), Memory>
-        requires { bundles.held_at self.old.bundle name.now ≡ None }
-        ensures ok { OnOk result (self.new.bundle
-            ≡ record self.old.bundle {
-              entries = self.old.bundle.entries
-                  ++ (name.now, held) ∷ [];
-            }) }
-        ensures unchanged { OnErr result (self.new.bundle ≡ self.old.bundle) }
-        ensures others { (self.new.headers ≡ self.old.headers) × (self.new.waiting
-            ≡ self.old.waiting) }
-    {
-        // So many names take more memory than there is.
-        if self.bundle.name_of(MOST_NAMES - 1).is_some() {
-            return Err(Memory);
-        }
-        self.bundle.add(name, held)?;
-        Ok(())
-    }
-
-    /// Reaches a file or a built-in header, which waits then.
-    fn reach(&mut self, name: &str, mentioned: List<Header>) -> Result<(), Memory>
-        ensures ok { OnOk result (self.new.waiting ≡ self.old.waiting
-            ++ record { name = name.now; mentioned = mentioned } ∷ []) }
-        ensures others { (self.new.headers ≡ self.old.headers) × (self.new.bundle
-            ≡ self.old.bundle) }
-    {
-        let name = String::from_str(self.alloc, name)?;
-        self.waiting.add(Reached { name, mentioned })
-    }
-
-    /// Reaches the built-in header of this name, where there is one that wasn't reached before.
-    fn reach_header(&mut self, name: &str) -> Result<(), Memory>
-        ensures ok { OnOk result (search_of self.new
-            ≡ telling.reach_header name.now (search_of self.old)) }
-        ensures others { self.new.bundle ≡ self.old.bundle }
-    {
-        let Some(text) = builtin_header(name) else {
-            return Ok(());
-        };
-        if self.has_header(name) {
-            return Ok(());
-        }
-        let mentioned = mentions(self.alloc, text)?;
-        self.reach(name, mentioned)?;
-        self.headers.add(copy(self.alloc, name)?)
-    }
-
-    /// Whether the built-in header of this name was reached.
-    fn has_header(&self, name: &str) -> bool
-        ensures { result ≡ is_among name.now self.now.headers }
-    {
-        self.headers
-            .as_slice()
-            .iter()
-            .any(|header| header.is_text(name.as_bytes()))
-    }
-}
-
-/// A copy of a name.
-fn copy(alloc: Global, name: &str) -> Result<Text, Memory>
-    ensures { IfOk result (λ text. text ≡ name.now) }
-{
-    Text::from_slice(alloc, name.as_bytes())
 }

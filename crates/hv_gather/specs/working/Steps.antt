@@ -1,13 +1,15 @@
 -- What the steps of the search do.
-use Rattle.std.specs.Prelude.{ℕ, ◌≡◌, ◌<◌, Bool, true, false, List, ◌++◌, length, Result, Ok, Err, Option, Some, None, IsTrue}
+use Rattle.std.specs.Prelude.{ℕ, ◌-◌, ◌^◌, ◌≡◌, ◌<◌, Bool, true, false, List, [], ◌∷◌, ◌++◌, length, min, Result, Ok, Err, Option, Some, None, IsTrue}
 use Rattle.hv_base.specs.Bundles.{NamedFiles}
 use Rattle.hv_base.specs.declared.held.Held.{Held}
+use Rattle.hv_base.specs.declared.held.Held.TheVariants.{Bytes}
 use Rattle.hv_base.specs.declared.limits.TheConstants.{MOST_BUNDLE_BYTES}
 use Rattle.hv_outside.specs.Files.{FileState}
 use Rattle.hv_gather.specs.declared.fault.GatherFault.{GatherFault}
 use Rattle.hv_gather.specs.declared.fault.GatherFault.TheVariants.{Read, MainAbsent, TooBig, Memory}
 use Rattle.hv_gather.specs.declared.search.Search.{Search}
-use Rattle.hv_gather.specs.Causes.{IsAbsent, IsTooBig, IsUnread}
+use Rattle.hv_gather.specs.Causes.{IsAbsent, IsTooBig, IsUnread, too_big}
+use Rattle.hv_gather.specs.Limits.{Beyond, first_beyond, total_of}
 use Rattle.hv_plain.specs.gathering.Told as telling
 
 -- how far the search is
@@ -55,13 +57,41 @@ IsCausedByStep before now MainAbsent = ⊥
 IsCausedByStep before now (TooBig name size total) = IsTooBig before name size total
 IsCausedByStep before now Memory = Unit {0}
 
--- all files are too big with this one, or memory ran out
-abbrev pub IsTooBigWith : (name bytes : List ℕ) → GatherFault → Type 0
-IsTooBigWith name bytes (Read _) = ⊥
-IsTooBigWith name bytes MainAbsent = ⊥
-IsTooBigWith name bytes (TooBig file size total) =
+-- the total is that of all files so far, and no limit was passed with one of them
+pub record IsWithin (total : ℕ) (entries : List (List ℕ × Held)) : Type 0 where
+  pub counted : total ≡ total_of entries
+  pub none : first_beyond entries 0 ≡ None
+
+-- where a limit is passed, it is so with the first of these entries with which one is passed
+abbrev pub NamesFirst : (entries : List (List ℕ × Held)) → GatherFault → Type 0
+NamesFirst entries (Read _) = Unit {0}
+NamesFirst entries MainAbsent = Unit {0}
+NamesFirst entries (TooBig name size total) =
+    (beyond : Beyond) × (first_beyond entries 0 ≡ Some beyond)
+    × (TooBig name size total ≡ too_big beyond)
+NamesFirst entries Memory = Unit {0}
+
+-- where a limit is passed, a file is held under this name, and it is so with this file after those
+-- so far
+abbrev pub NamesThis : (name : List ℕ) → (held : Option (List ℕ))
+    → (entries : List (List ℕ × Held))
+    → GatherFault → Type 0
+NamesThis name held entries (Read _) = Unit {0}
+NamesThis name held entries MainAbsent = Unit {0}
+NamesThis name held entries (TooBig file size total) =
+    (bytes : List ℕ) × (held ≡ Some bytes)
+    × NamesFirst (entries ++ (name, Bytes bytes) ∷ []) (TooBig file size total)
+NamesThis name held entries Memory = Unit {0}
+
+-- all files are too big with this one, which is the first with which it is so, or memory ran out
+abbrev pub IsTooBigWith : (name bytes : List ℕ) → (entries : List (List ℕ × Held))
+    → GatherFault → Type 0
+IsTooBigWith name bytes entries (Read _) = ⊥
+IsTooBigWith name bytes entries MainAbsent = ⊥
+IsTooBigWith name bytes entries (TooBig file size total) =
     (file ≡ name) × (size ≡ length bytes) × (MOST_BUNDLE_BYTES < total)
-IsTooBigWith name bytes Memory = Unit {0}
+    × NamesFirst (entries ++ (name, Bytes bytes) ∷ []) (TooBig file size total)
+IsTooBigWith name bytes entries Memory = Unit {0}
 
 -- there is no file, or memory ran out
 abbrev pub IsNoFile : Result Bool GatherFault → Type 0

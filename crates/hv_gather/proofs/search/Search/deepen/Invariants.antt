@@ -1,7 +1,7 @@
 use Rattle.std.proofs.Common.{◌≡◌, ℕ, List, Option, take}
 use Rattle.hv_outside.specs.Files.{Keeps}
 use Rattle.hv_plain.specs.gathering.Told as telling
-use Rattle.hv_gather.specs.working.Steps.{Grows, Tells, search_of}
+use Rattle.hv_gather.specs.working.Steps.{Grows, IsWithin, Tells, search_of}
 use Rattle.hv_gather.proofs.search.Search.deepen.Given as goal
 
 -- the search for what each one so far mentions
@@ -11,3 +11,4 @@ invariant-loop-reached g l =
     × Grows l.initial.self.bundle l.self.bundle
     × ((held : List ℕ → Option (List ℕ)) → Tells (g.F.Files.state l.initial.files) held
     → search_of l.self ≡ telling.follow_all held l.initial.self.bundle.dirs (take l.reached-index l.reached-items) (search_of l.initial.self))
+    × IsWithin l.self.total l.self.bundle.entries
