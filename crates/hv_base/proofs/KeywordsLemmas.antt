@@ -1,13 +1,8 @@
 -- No two keywords are spelt alike, and spellings are read back.
-use Rattle.std.proofs.Common.{◌≡◌, ◌≢◌, ℕ, ◌∷◌, [], List, refl, sym, ◌∙◌, ap, subst, true, Option, Some, None}
-use Rattle.std.specs.Option.{IfSome, IfNone}
-use Rattle.std.specs.List.{find, slice_get}
-use Rattle.std.specs.Str.{bytes_eq}
-use Rattle.std.proofs.lemmas.Slice.Eq.{bytes_eq-Decides}
-use Rattle.hv_base.proofs.Lists.{find-passes}
+use Rattle.std.proofs.Common.{◌≡◌, refl, Some}
 use Rattle.hv_base.specs.declared.keyword.Keyword.{Keyword}
 use Rattle.hv_base.specs.declared.keyword.Keyword.TheVariants.{Auto, Break, Case, Char, Const, Continue, Default, Do, Else, Enum, Extern, For, If, Inline, Int, Long, Register, Restrict, Return, Short, Signed, Sizeof, Static, Struct, Switch, Typedef, Union, Unsigned, Void, While, Bool}
-use Rattle.hv_base.specs.Keywords.{spelling_of, keyword_of, keywords}
+use Rattle.hv_base.specs.Keywords.{spelling_of, keyword_of}
 
 pub read_back : (it : Keyword) → keyword_of (spelling_of it) ≡ Some it
 read_back Auto = refl
@@ -41,28 +36,3 @@ read_back Unsigned = refl
 read_back Void = refl
 read_back While = refl
 read_back Bool = refl
-
-no_other : (text : List ℕ) → keyword_of text ≡ None → (it : Keyword) → text ≢ spelling_of it
-no_other text none it is = cc (read_back it, ap keyword_of is)
-
------- from_spelling
-
--- of those that begin with the same byte, the one that is found is the one that is meant
-pub found : (text : List ℕ) (first : ℕ) (among : List Keyword) (result : Option Keyword) → slice_get text 0 ≡ Some first
-    → result ≡ find (λ word. bytes_eq text (spelling_of word)) among
-    → ((rest : List ℕ) → find (λ word. bytes_eq (first ∷ rest) (spelling_of word)) among ≡ keyword_of (first ∷ rest))
-    → result ≡ keyword_of text
-found [] first among result e is same = cc
-found (byte ∷ rest) first among result e is same =
-    let b : byte ≡ first = cc in
-    is ∙ (ap (λ t. find (λ word. bytes_eq t (spelling_of word)) among) (ap (λ c. c ∷ rest) b)
-    ∙ (same rest ∙ ap (λ c. keyword_of (c ∷ rest)) (sym b)))
-
-pub some : (text : List ℕ) (result : Option Keyword) → result ≡ keyword_of text → IfSome result (λ word. text ≡ spelling_of word)
-some text None e = tt
-some text (Some it) e =
-    (bytes_eq-Decides text (spelling_of it)).0 (subst (λ o. IfSome o (λ word. bytes_eq text (spelling_of word) ≡ true)) (sym e) (find-passes {X = Keyword} (λ word. bytes_eq text (spelling_of word)) keywords))
-
-pub none : (text : List ℕ) (result : Option Keyword) → result ≡ keyword_of text → IfNone result ((word : Keyword) → text ≢ spelling_of word)
-none text None e = no_other text (sym e)
-none text (Some it) e = tt

@@ -3,3 +3,4 @@ pub mod BundlesLemmas
 pub mod KeywordsLemmas
 pub mod Lists
 pub mod PunctsLemmas
+pub mod SpellingsLemmas

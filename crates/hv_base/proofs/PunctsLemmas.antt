@@ -1,13 +1,8 @@
 -- No two punctuators are spelt alike, and spellings are read back.
-use Rattle.std.proofs.Common.{◌≡◌, ◌≢◌, ℕ, ◌∷◌, [], List, refl, sym, ◌∙◌, ap, subst, true, Option, Some, None}
-use Rattle.std.specs.Option.{IfSome, IfNone}
-use Rattle.std.specs.List.{find, slice_get}
-use Rattle.std.specs.Str.{bytes_eq}
-use Rattle.std.proofs.lemmas.Slice.Eq.{bytes_eq-Decides}
-use Rattle.hv_base.proofs.Lists.{find-passes}
+use Rattle.std.proofs.Common.{◌≡◌, refl, Some}
 use Rattle.hv_base.specs.declared.punct.Punct.{Punct}
 use Rattle.hv_base.specs.declared.punct.Punct.TheVariants.{LeftBracket, RightBracket, LeftParenthesis, RightParenthesis, LeftBrace, RightBrace, Dot, Arrow, PlusPlus, MinusMinus, And, Star, Plus, Minus, Tilde, Not, Slash, Percent, LeftShift, RightShift, Less, Greater, LessEqual, GreaterEqual, EqualEqual, NotEqual, Caret, Or, AndAnd, OrOr, Question, Colon, Semicolon, Ellipsis, Equal, StarEqual, SlashEqual, PercentEqual, PlusEqual, MinusEqual, LeftShiftEqual, RightShiftEqual, AndEqual, CaretEqual, OrEqual, Comma, Hash, HashHash}
-use Rattle.hv_base.specs.Puncts.{spelling_of, punct_of, puncts}
+use Rattle.hv_base.specs.Puncts.{spelling_of, punct_of}
 
 pub read_back : (it : Punct) → punct_of (spelling_of it) ≡ Some it
 read_back LeftBracket = refl
@@ -58,28 +53,3 @@ read_back OrEqual = refl
 read_back Comma = refl
 read_back Hash = refl
 read_back HashHash = refl
-
-no_other : (text : List ℕ) → punct_of text ≡ None → (it : Punct) → text ≢ spelling_of it
-no_other text none it is = cc (read_back it, ap punct_of is)
-
------- from_spelling
-
--- of those that begin with the same byte, the one that is found is the one that is meant
-pub found : (text : List ℕ) (first : ℕ) (among : List Punct) (result : Option Punct) → slice_get text 0 ≡ Some first
-    → result ≡ find (λ sign. bytes_eq text (spelling_of sign)) among
-    → ((rest : List ℕ) → find (λ sign. bytes_eq (first ∷ rest) (spelling_of sign)) among ≡ punct_of (first ∷ rest))
-    → result ≡ punct_of text
-found [] first among result e is same = cc
-found (byte ∷ rest) first among result e is same =
-    let b : byte ≡ first = cc in
-    is ∙ (ap (λ t. find (λ sign. bytes_eq t (spelling_of sign)) among) (ap (λ c. c ∷ rest) b)
-    ∙ (same rest ∙ ap (λ c. punct_of (c ∷ rest)) (sym b)))
-
-pub some : (text : List ℕ) (result : Option Punct) → result ≡ punct_of text → IfSome result (λ sign. text ≡ spelling_of sign)
-some text None e = tt
-some text (Some it) e =
-    (bytes_eq-Decides text (spelling_of it)).0 (subst (λ o. IfSome o (λ sign. bytes_eq text (spelling_of sign) ≡ true)) (sym e) (find-passes {X = Punct} (λ sign. bytes_eq text (spelling_of sign)) puncts))
-
-pub none : (text : List ℕ) (result : Option Punct) → result ≡ punct_of text → IfNone result ((sign : Punct) → text ≢ spelling_of sign)
-none text None e = no_other text (sym e)
-none text (Some it) e = tt

@@ -1,6 +1,6 @@
 -- Bytes that have names, and classes of bytes (5.2.1, 6.4). Each class has a function of the same
 -- name in `hv_base`. Not in here: universal character names.
-use Rattle.std.specs.Prelude.{ℕ, Bool, ◌&&◌, ◌||◌, ◌==◌, nat_le, List}
+use Rattle.std.specs.Prelude.{ℕ, Bool, true, false, ◌&&◌, ◌||◌, ◌==◌, nat_le, List, [], ◌∷◌}
 use Rattle.std.specs.List.{list_any}
 use Rattle.std.specs.Str.{bytes_eq}
 
@@ -142,6 +142,10 @@ backslash = 92
 abbrev pub right_bracket : ℕ
 right_bracket = 93
 
+-- `^`
+abbrev pub caret : ℕ
+caret = 94
+
 -- `_`
 abbrev pub underscore : ℕ
 underscore = 95
@@ -207,6 +211,11 @@ abbrev pub is_printable : ℕ → Bool
 is_printable byte = nat_le space byte && nat_le byte tilde
 
 ------ texts
+
+-- a text without bytes
+abbrev pub is_empty : List ℕ → Bool
+is_empty [] = true
+is_empty (_ ∷ _) = false
 
 -- the text is one of the words
 abbrev pub is_among : List ℕ → List (List ℕ) → Bool

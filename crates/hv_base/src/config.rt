@@ -1,3 +1,4 @@
+//! A configuration of a model.
 ghost use Rattle.std.specs.Prelude.{◌≡◌, ◌<◌, length, Some, slice_get};
 
 use crate::List;

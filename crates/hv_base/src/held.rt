@@ -1,3 +1,4 @@
+//! What a bundle knows of a file.
 use crate::Text;
 
 /// What a bundle knows of a name.

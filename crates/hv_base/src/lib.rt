@@ -1,5 +1,5 @@
-//! What every crate of Hercules speaks of: lists, texts, places in sources, tokens of C,
-//! configurations and the causes of refusals.
+//! What every crate of Hercules speaks of: lists, texts, places in sources, tokens and operators of
+//! C, configurations and the causes of refusals.
 #![tactic(auto)]
 
 mod ascii;
@@ -10,6 +10,7 @@ mod keyword;
 mod limits;
 mod list;
 mod memory;
+mod operator;
 mod place;
 mod punct;
 mod refusal;
@@ -33,6 +34,7 @@ pub use limits::{
 };
 pub use list::{List, Text};
 pub use memory::Memory;
+pub use operator::BinaryOperator;
 pub use place::{Place, Span, Start};
 pub use punct::Punct;
 pub use refusal::Refusal;

@@ -1,3 +1,4 @@
+//! Growable lists and texts.
 ghost use Rattle.std.specs.Prelude.{◌≡◌, ◌↔◌, [], ◌∷◌, ◌++◌, ◌<◌, length, slice_get, slice_set, Some, IsTrue, OnOk, OnErr, IfErr, IfOk, OnSome};
 ghost use Rattle.std.specs.Option.{option_copied};
 

@@ -1,3 +1,4 @@
+//! Where something stands in a source: places, spans and starts of tokens.
 ghost use Rattle.std.specs.Prelude.{◌≡◌, ◌↔◌, IsTrue, IfOk};
 ghost use Rattle.std.specs.Bool.{Decides};
 

@@ -1,3 +1,4 @@
+//! The punctuators of C, and how they are spelled.
 ghost use Rattle.std.specs.Prelude.{◌≡◌, ◌≢◌, ◌∷◌, Some, List, ℕ, find, IfNone, IfSome};
 ghost use Rattle.std.specs.Str.{bytes_eq};
 ghost use Rattle.hv_base.specs.Puncts as puncts;

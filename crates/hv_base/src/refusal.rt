@@ -1,3 +1,4 @@
+//! Why a product line is refused.
 use crate::{Config, List, Place, Why};
 
 /// Why a product line is refused.

@@ -1,3 +1,4 @@
+//! Stacks.
 ghost use Rattle.std.specs.Prelude.{◌≡◌, ◌↔◌, [], ◌∷◌, length, slice_get, List, reverse, IsTrue, IfNone, IfSome, OnOk, OnErr};
 ghost use Rattle.std.specs.Option.{option_copied};
 

@@ -1,3 +1,4 @@
+//! How commands end.
 ghost use Rattle.std.specs.Prelude.{◌≡◌, ◌<◌};
 ghost use Rattle.hv_base.specs.Status as statuses;
 

@@ -1,3 +1,4 @@
+//! Each call once, and rows of the tables.
 use super::*;
 use std::rc::Rc;
 use std::test::Fail;

@@ -1,3 +1,4 @@
+//! Tokens of C.
 use crate::{Keyword, Punct, Text};
 
 /// The type of an integer constant (ISO/IEC 9899:1999, 6.4.4.1).

@@ -1,3 +1,4 @@
+//! The causes of refusals of a source.
 ghost use Rattle.std.specs.Prelude.{◌≡◌};
 ghost use Rattle.hv_base.specs.Why.{number_of, name_of};
 

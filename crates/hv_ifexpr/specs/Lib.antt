@@ -1,3 +1,3 @@
-pub mod Answer
-pub mod Machine
-pub mod States
+-- What controlling expressions are worth is defined in `hv_plain/specs/controlling`: the exported
+-- clause cites nothing of this crate. `working` is about the machine that reads them.
+pub mod working

@@ -1,8 +1,11 @@
+//! Why a controlling expression has no truth.
+
 /// Why a controlling expression has no truth.
 #[derive(Clone, Copy, Debug, PartialEq, Eq)]
 pub enum IfFault {
-    /// The tokens are no expression, or evaluating it divides by zero or shifts by a negative amount or too far.
+    /// The tokens aren't an expression, or evaluating it divides by zero or shifts by a negative
+    /// amount or too far (6.6, 6.10.1).
     Bad,
-    /// There is not enough memory.
+    /// Memory ran out.
     Memory,
 }

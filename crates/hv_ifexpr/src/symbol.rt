@@ -1,14 +1,15 @@
 //! What a token is to the grammar of controlling expressions.
 ghost use Rattle.std.specs.Prelude.{◌≡◌};
-ghost use Rattle.hv_plain.specs.controlling.Symbols.{constant as constant_of, double as double_of, doubled as doubled_of, identifier as identifier_of, punctuator as punctuator_of, single as single_of, symbol_of, with_equals as with_equals_of};
+ghost use Rattle.hv_plain.specs.controlling.Symbols as symbols;
 
 use crate::constant::{char_constant, integer_constant};
-use hv_plain::{Binary, Operand, Symbol};
+use hv_base::BinaryOperator;
+use hv_plain::{Operand, Symbol};
 use hv_toks::{PpKind, PpTok};
 
-/// A name that is no macro's: it is replaced by 0, but `defined` stands in no expression.
+/// A name that isn't a macro's: it is replaced by 0, but `defined` stands in no expression.
 fn identifier(name: &[u8]) -> Symbol
-    ensures { result ≡ identifier_of name.now }
+    ensures { result ≡ symbols.identifier name.now }
 {
     if name == "defined".as_bytes() {
         return Symbol::Other;
@@ -19,8 +20,9 @@ fn identifier(name: &[u8]) -> Symbol
     })
 }
 
+/// A constant by what it comes to.
 fn constant(value: Option<Operand>) -> Symbol
-    ensures { result ≡ constant_of value }
+    ensures { result ≡ symbols.constant value }
 {
     match value {
         Some(operand) => Symbol::Number(operand),
@@ -28,20 +30,21 @@ fn constant(value: Option<Operand>) -> Symbol
     }
 }
 
+/// A punctuator of one byte.
 fn single(byte: u8) -> Symbol
-    ensures { result ≡ single_of byte }
+    ensures { result ≡ symbols.single byte }
 {
     match byte {
-        b'*' => Symbol::Operator(Binary::Multiply),
-        b'/' => Symbol::Operator(Binary::Divide),
-        b'%' => Symbol::Operator(Binary::Remainder),
-        b'+' => Symbol::Operator(Binary::Add),
-        b'-' => Symbol::Operator(Binary::Subtract),
-        b'<' => Symbol::Operator(Binary::Less),
-        b'>' => Symbol::Operator(Binary::Greater),
-        b'&' => Symbol::Operator(Binary::And),
-        b'^' => Symbol::Operator(Binary::ExclusiveOr),
-        b'|' => Symbol::Operator(Binary::Or),
+        b'*' => Symbol::Operator(BinaryOperator::Multiply),
+        b'/' => Symbol::Operator(BinaryOperator::Divide),
+        b'%' => Symbol::Operator(BinaryOperator::Remainder),
+        b'+' => Symbol::Operator(BinaryOperator::Add),
+        b'-' => Symbol::Operator(BinaryOperator::Subtract),
+        b'<' => Symbol::Operator(BinaryOperator::Less),
+        b'>' => Symbol::Operator(BinaryOperator::Greater),
+        b'&' => Symbol::Operator(BinaryOperator::And),
+        b'^' => Symbol::Operator(BinaryOperator::ExclusiveOr),
+        b'|' => Symbol::Operator(BinaryOperator::Or),
         b'~' => Symbol::Complement,
         b'!' => Symbol::Not,
         b'(' => Symbol::Open,
@@ -54,32 +57,33 @@ fn single(byte: u8) -> Symbol
 
 /// A punctuator that is a byte twice.
 fn doubled(byte: u8) -> Symbol
-    ensures { result ≡ doubled_of byte }
+    ensures { result ≡ symbols.doubled byte }
 {
     match byte {
-        b'<' => Symbol::Operator(Binary::ShiftLeft),
-        b'>' => Symbol::Operator(Binary::ShiftRight),
-        b'=' => Symbol::Operator(Binary::Equal),
-        b'&' => Symbol::Operator(Binary::LogicalAnd),
-        b'|' => Symbol::Operator(Binary::LogicalOr),
+        b'<' => Symbol::Operator(BinaryOperator::ShiftLeft),
+        b'>' => Symbol::Operator(BinaryOperator::ShiftRight),
+        b'=' => Symbol::Operator(BinaryOperator::Equal),
+        b'&' => Symbol::Operator(BinaryOperator::LogicalAnd),
+        b'|' => Symbol::Operator(BinaryOperator::LogicalOr),
         _ => Symbol::Other,
     }
 }
 
 /// A punctuator that is another byte and `=`.
 fn with_equals(byte: u8) -> Symbol
-    ensures { result ≡ with_equals_of byte }
+    ensures { result ≡ symbols.with_equals byte }
 {
     match byte {
-        b'<' => Symbol::Operator(Binary::LessEqual),
-        b'>' => Symbol::Operator(Binary::GreaterEqual),
-        b'!' => Symbol::Operator(Binary::NotEqual),
+        b'<' => Symbol::Operator(BinaryOperator::LessEqual),
+        b'>' => Symbol::Operator(BinaryOperator::GreaterEqual),
+        b'!' => Symbol::Operator(BinaryOperator::NotEqual),
         _ => Symbol::Other,
     }
 }
 
+/// A punctuator of two bytes.
 fn double(first: u8, second: u8) -> Symbol
-    ensures { result ≡ double_of first second }
+    ensures { result ≡ symbols.double first second }
 {
     if first == second {
         doubled(first)
@@ -90,8 +94,9 @@ fn double(first: u8, second: u8) -> Symbol
     }
 }
 
+/// A punctuator by its spelling.
 fn punctuator(text: &[u8]) -> Symbol
-    ensures { result ≡ punctuator_of text.now }
+    ensures { result ≡ symbols.punctuator text.now }
 {
     match text {
         [byte] => single(*byte),
@@ -102,7 +107,7 @@ fn punctuator(text: &[u8]) -> Symbol
 
 /// What the token is to the grammar.
 pub(crate) fn classify(token: &PpTok) -> Symbol
-    ensures { result ≡ symbol_of token.now }
+    ensures { result ≡ symbols.symbol_of token.now }
 {
     let text = token.text.as_slice();
     match token.kind {

@@ -1,3 +1,4 @@
+//! Rows of expressions, and their truth.
 use super::*;
 use hv_base::{Span, Text};
 use hv_toks::{PpKind, PpTok};

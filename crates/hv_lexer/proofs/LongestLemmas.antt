@@ -3,8 +3,8 @@ use Rattle.std.proofs.Common.{◌≡◌, ℕ, zero, suc, ◌+◌, ◌<◌, ◌�
 use Rattle.std.specs.Prelude.{◌&&◌, ◌||◌, ◌==◌}
 use Rattle.std.specs.List.{list_all, prefix_len}
 use Rattle.std.proofs.lemmas.Bool.Decides.{nat_tests}
-use Rattle.hv_base.specs.Ascii.{is_digit, is_identifier_byte, is_nondigit}
-use Rattle.hv_toks.specs.Lexical.{longest, optional, is_identifier, is_exponent, is_sign, continues_number, begins_with_digit, is_number, is_empty, closes, is_quoted, is_enclosed, is_header_name}
+use Rattle.hv_base.specs.Ascii.{is_digit, is_empty, is_identifier_byte, is_nondigit}
+use Rattle.hv_toks.specs.Lexical.{longest, optional, is_identifier, is_exponent, is_sign, continues_number, begins_with_digit, is_number, closes, is_quoted, is_enclosed, is_header_name}
 use Rattle.hv_lexer.specs.working.Lengths.{IsLongest, one_more}
 
 -- the length after one more byte, where `alone` says that the byte is a prefix by itself

@@ -5,8 +5,8 @@ use Rattle.std.specs.List.{list_all, list_any}
 use Rattle.std.specs.Str.{bytes_eq}
 use Rattle.std.proofs.lemmas.Bool.Decides.{nat_tests}
 use Rattle.std.proofs.lemmas.Slice.Eq.{bytes_eq-Decides}
-use Rattle.hv_toks.specs.Lexical.{optional, is_identifier, is_exponent, continues_number, begins_with_digit, is_number, is_empty, closes, is_quoted, is_punctuator, pairs, triples}
-use Rattle.hv_base.specs.Ascii.{is_digit, is_identifier_byte, is_line_space, is_nondigit}
+use Rattle.hv_toks.specs.Lexical.{optional, is_identifier, is_exponent, continues_number, begins_with_digit, is_number, closes, is_quoted, is_punctuator, pairs, triples}
+use Rattle.hv_base.specs.Ascii.{is_digit, is_empty, is_identifier_byte, is_line_space, is_nondigit}
 use Rattle.hv_lexer.proofs.ByteTests.{never_both}
 use Rattle.hv_lexer.proofs.LongestLemmas.{may_continue}
 use Rattle.hv_lexer.proofs.LongestStops.{Stops}

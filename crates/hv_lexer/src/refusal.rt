@@ -1,3 +1,4 @@
+//! Why a file has no cutting.
 use thiserror::Error;
 
 /// Why a file is not cut.

@@ -1,3 +1,4 @@
+//! Rows of files and their tokens.
 use super::*;
 use hv_base::Span;
 use hv_toks::PpKind;
@@ -173,8 +174,10 @@ fn the_examples_of_the_standard_are_cut(rt: HostRuntime) -> Result<(), Fail> {
             "g ( x + ( 3 , 4 ) - w ) | h 5 ) & m ( f ) ^ m ( m ) ;",
         ),
         (
-            "fputs(str(strncmp(\"abc\\0d\", \"abc\", '\\4') // this goes away\n== 0) str(: @\\n), s);",
-            "fputs ( str ( strncmp ( \"abc\\0d\" , \"abc\" , '\\4' ) == 0 ) str ( : @ \\ n ) , s ) ;",
+            "fputs(str(strncmp(\"abc\\0d\", \"abc\", '\\4') // this goes away\n\
+            == 0) str(: @\\n), s);",
+            "fputs ( str ( strncmp ( \"abc\\0d\" , \"abc\" , '\\4' ) == 0 ) \
+            str ( : @ \\ n ) , s ) ;",
         ),
         ("#define hash_hash # ## #", "# define hash_hash # ## #"),
         ("<\\\n<\\\n=", "<<="),
@@ -220,7 +223,8 @@ fn a_splice_may_stand_at_every_offset(rt: HostRuntime) -> Result<(), Fail> {
 #[test]
 fn each_punctuator_is_one_token(rt: HostRuntime) -> Result<(), Fail> {
     let all =
-        "[ ] ( ) { } . -> ++ -- & * + - ~ ! / % << >> < > <= >= == != ^ | && || ? : ; ... = *= /= %= += -= <<= >>= &= ^= |= , # ##";
+        "[ ] ( ) { } . -> ++ -- & * + - ~ ! / % << >> < > <= >= == != ^ | && || ? : ; ... \
+        = *= /= %= += -= <<= >>= &= ^= |= , # ##";
     let tokens = lex(rt.alloc(), 0, all.as_bytes())?;
     assert_eq!(rt; tokens.len(), 48);
     assert!(rt; is_spelled(tokens.as_slice(), all));

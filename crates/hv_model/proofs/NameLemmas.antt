@@ -16,7 +16,8 @@ letter-small byte e = grind (arith, nat_tests)
 name_byte-small : (byte : ℕ) → is_identifier_byte byte ≡ true → byte < 128
 name_byte-small byte e = grind (arith, nat_tests)
 
-name_bytes-small : (bytes : List ℕ) → list_all is_identifier_byte bytes ≡ true → All (λ byte. byte < 128) bytes
+name_bytes-small : (bytes : List ℕ) → list_all is_identifier_byte bytes ≡ true
+    → All (λ byte. byte < 128) bytes
 name_bytes-small [] e = λ k d h. absurd (omega arith)
 name_bytes-small (byte ∷ bytes) e =
     All-cons (λ b. b < 128) byte bytes
@@ -32,4 +33,5 @@ name-small (byte ∷ bytes) e =
 
 pub IsUtf8-option_name : (name : List ℕ) → is_option_name name ≡ true → IsUtf8 name
 IsUtf8-option_name name e =
-    IsUtf8-from_ascii name (IsAscii-from_all name (name-small name (and_left (is_name name) _ (and_left _ _ e))))
+    IsUtf8-from_ascii name (IsAscii-from_all name
+    (name-small name (and_left (is_name name) _ (and_left _ _ e))))

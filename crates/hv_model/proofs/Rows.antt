@@ -6,7 +6,9 @@ use Rattle.hv_model.specs.Rule.{option, implication, meets}
 use Rattle.hv_model.specs.Token.{implies, either, both, negate, open_, close, word, other, tokens}
 use Rattle.hv_model.specs.Beginning.{beginning, option_file, place_in, predefined}
 
-cut : tokens (codes "A=>!B1||(c &&_d)& =1") ≡ word (codes "A") ∷ implies ∷ negate ∷ word (codes "B1") ∷ either ∷ open_ ∷ word (codes "c") ∷ both ∷ word (codes "_d") ∷ close ∷ other ∷ other ∷ word (codes "1") ∷ []
+cut : tokens (codes "A=>!B1||(c &&_d)& =1") ≡ word (codes "A") ∷ implies ∷ negate ∷
+    word (codes "B1") ∷ either ∷ open_ ∷ word (codes "c") ∷ both ∷ word (codes "_d") ∷ close ∷
+    other ∷ other ∷ word (codes "1") ∷ []
 cut = refl
 
 comment : line_of (codes " \t# rule") ≡ nothing
@@ -53,7 +55,8 @@ both_on = refl
 false_implies : meets (false ∷ false ∷ []) (implication (option 0) (option 1)) ≡ true
 false_implies = refl
 
--- A is on and B is off: A is defined at its number, and behind it the predefined macros
-begun_with_A : beginning names_AB (true ∷ false ∷ []) ≡ (codes "A", codes "1", place_in option_file 0) ∷ predefined
+-- A is on and B is off: A is defined at its number, and after it the predefined macros
+begun_with_A : beginning names_AB (true ∷ false ∷ [])
+    ≡ (codes "A", codes "1", place_in option_file 0) ∷ predefined
 unfolding names_AB
 begun_with_A = refl

@@ -1,18 +1,13 @@
--- The lines of a text, and the blanks before its first byte that is none.
-use Rattle.std.specs.Prelude.{ℕ, Bool, true, false, cond, ◌==◌, ◌-◌, List, [], ◌∷◌, length, take, slice_index}
+-- The lines of a text, and its leading blanks.
+use Rattle.std.specs.Prelude.{ℕ, cond, ◌==◌, ◌-◌, List, [], ◌∷◌, length, take, slice_index}
 use Rattle.std.specs.List.{slice_split}
-use Rattle.hv_base.specs.Ascii.{carriage_return, is_blank, is_newline}
-
--- a text without bytes
-abbrev pub is_empty : List ℕ → Bool
-is_empty [] = true
-is_empty (_ ∷ _) = false
+use Rattle.hv_base.specs.Ascii.{carriage_return, is_blank, is_empty, is_newline}
 
 -- the text after its first blanks
-abbrev pub without_front_blanks : List ℕ → List ℕ
-without_front_blanks [] = []
-without_front_blanks (byte ∷ bytes) = cond (is_blank byte) (without_front_blanks bytes) (byte
-    ∷ bytes)
+abbrev pub without_leading_blanks : List ℕ → List ℕ
+without_leading_blanks [] = []
+without_leading_blanks (byte ∷ bytes) =
+    cond (is_blank byte) (without_leading_blanks bytes) (byte ∷ bytes)
 
 -- one carriage return at a line's end is no part of it
 abbrev pub without_return : List ℕ → List ℕ

@@ -4,7 +4,7 @@ use Rattle.std.specs.List.{list_any}
 use Rattle.std.specs.Str.{bytes_eq}
 use Rattle.hv_base.specs.Ascii as ascii
 use Rattle.hv_base.specs.declared.limits.TheConstants.{MOST_OPTIONS}
-use Rattle.hv_model.specs.Bytes.{without_front_blanks, lines_of}
+use Rattle.hv_model.specs.Bytes.{without_leading_blanks, lines_of}
 use Rattle.hv_model.specs.Name.{is_option_name}
 use Rattle.hv_model.specs.Grammar.{IsRule}
 use Rattle.hv_model.specs.Rule.{Rule, Features, IsValid, is_about}
@@ -39,7 +39,7 @@ line_of_tokens (_ ∷ _) = bad_line
 -- what a line says
 abbrev pub line_of : List ℕ → ModelLine
 line_of line = cond
-    (begins_comment (without_front_blanks line)) nothing (line_of_tokens (tokens line))
+    (begins_comment (without_leading_blanks line)) nothing (line_of_tokens (tokens line))
 
 -- what a model file is: a model, or its first fault with the number of the line
 pub data Reading : Type 0 where

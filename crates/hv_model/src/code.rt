@@ -101,7 +101,7 @@ impl Code {
         Ok(())
     }
 
-    /// Whether the rule speaks of the first so many options alone.
+    /// Whether the rule speaks of the first so many options only.
     pub(crate) fn fits(&self, options: usize) -> bool
         ensures { result ≡ list_all (fits options) self.now }
     {
@@ -138,7 +138,7 @@ impl Code {
     }
 }
 
-/// Whether the step speaks of the first so many options alone.
+/// Whether the step speaks of the first so many options only.
 fn fits(step: Step, options: usize) -> bool
     ensures { result ≡ step_fits options step }
 {

@@ -2,7 +2,7 @@
 ghost use Rattle.std.specs.Prelude.{◌≡◌, ◌<◌, ◌≤◌, [], ◌∷◌, length, IfNone, IfSome};
 ghost use Rattle.std.specs.List.{slice_split, position_or_len};
 ghost use Rattle.hv_base.specs.Ascii.{is_newline};
-ghost use Rattle.hv_model.specs.Bytes.{counted_lines, without_front_blanks, without_return};
+ghost use Rattle.hv_model.specs.Bytes.{counted_lines, without_leading_blanks, without_return};
 ghost use Rattle.hv_model.specs.working.ModelLine.{IsLine};
 ghost use Rattle.hv_model.specs.Lines.{begins_comment, line_of, line_of_tokens, option_of};
 ghost use Rattle.hv_model.specs.Token.{tokens, word as word_token};
@@ -25,7 +25,7 @@ pub(crate) enum ModelLine<'a> {
 
 /// Whether the line is a comment.
 fn is_comment(line: &[u8]) -> bool
-    ensures { result ≡ begins_comment (without_front_blanks line.now) }
+    ensures { result ≡ begins_comment (without_leading_blanks line.now) }
 {
     matches!(skip_blanks(line), [b'#', ..])
 }

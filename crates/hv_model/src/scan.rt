@@ -3,7 +3,7 @@ ghost use Rattle.std.specs.Prelude.{◌≡◌, ◌<◌, ◌≤◌, [], ◌∷◌
 ghost use Rattle.std.specs.List.{prefix_len};
 ghost use Rattle.std.specs.Option.{option_map};
 ghost use Rattle.hv_base.specs.Ascii as ascii;
-ghost use Rattle.hv_model.specs.Bytes.{without_front_blanks};
+ghost use Rattle.hv_model.specs.Bytes.{without_leading_blanks};
 ghost use Rattle.hv_model.specs.working.Said.{said};
 ghost use Rattle.hv_model.specs.Token.{tokens, pair_of, single as single_of};
 
@@ -44,10 +44,10 @@ fn word_len(text: &[u8]) -> usize
 
 /// The text after its first blanks.
 pub fn skip_blanks(text: &[u8]) -> &[u8]
-    ensures value { result.now ≡ without_front_blanks text.now }
+    ensures value { result.now ≡ without_leading_blanks text.now }
     ensures same { tokens result.now ≡ tokens text.now }
     ensures shorter { length result.now ≤ length text.now }
-    ensures front { prefix_len ascii.is_blank result.now ≡ 0 }
+    ensures first { prefix_len ascii.is_blank result.now ≡ 0 }
 {
     &text[blank_len(text)..]
 }

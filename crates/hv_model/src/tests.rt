@@ -1,3 +1,4 @@
+//! Models, their configurations and their refusals.
 use super::*;
 use hv_base::{Config, List};
 use hv_cond::{Node, Store};

@@ -12,7 +12,8 @@ Keeps-refl state = record {
 }
 
 -- two calls in a row keep what each keeps
-pub Keeps-trans : (before middle now : FileState) → Keeps before middle → Keeps middle now → Keeps before now
+pub Keeps-trans : (before middle now : FileState) → Keeps before middle → Keeps middle now
+    → Keeps before now
 Keeps-trans before middle now first second = record {
   told = second.told ∙ first.told;
   held = λ name. second.held name ∙ first.held name;

@@ -7,8 +7,9 @@ use Rattle.hv_outside.specs.declared.files.Got.{Got}
 use Rattle.hv_outside.specs.declared.files.Got.TheVariants.{Bytes, Absent, TooBig}
 use Rattle.hv_base.specs.declared.limits.TheConstants.{MOST_FILE_BYTES}
 
--- whether it is told what the files hold, and the bytes under each name, which say nothing where it isn't
--- told; how many reads failed, how many found no file, and the name of the latest read that failed
+-- whether it is told what the files hold, and the bytes under each name, which say nothing where it
+-- isn't told; how many reads failed, how many found no file, and the name of the latest read that
+-- failed
 pub record FileState : Type 0 where
   pub told : Bool
   pub held : List ℕ → Option (List ℕ)
@@ -50,7 +51,9 @@ pub record Keeps (before now : FileState) : Type 0 where
 
 -- these bytes are held under this name now, and under each other name what was held before
 abbrev pub Puts : (before now : List ℕ → Option (List ℕ)) → (name bytes : List ℕ) → Type 0
-Puts before now name bytes = (now name ≡ Some bytes) × ((other : List ℕ) → other ≢ name → now other ≡ before other)
+Puts before now name bytes =
+    (now name ≡ Some bytes)
+    × ((other : List ℕ) → other ≢ name → now other ≡ before other)
 
 -- what is held under each name stays
 abbrev pub SameHeld : (before now : List ℕ → Option (List ℕ)) → Type 0

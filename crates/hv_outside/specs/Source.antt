@@ -7,8 +7,8 @@ pub record SourceState : Type 0 where
   pub left : Option (List ℕ)
   pub faults : ℕ
 
--- with these bytes left before and after, a read gave this answer, and the buffer begins with what it gave;
--- no byte is taken by a read that failed, and none is given exactly where none was left
+-- with these bytes left before and after, a read gave this answer, and the buffer begins with what
+-- it gave; no byte is taken by a read that failed, and none is given exactly where none was left
 abbrev pub TakesPrefix : Option (List ℕ) → Option (List ℕ) → Result ℕ Failed → List ℕ → Type 0
 TakesPrefix None left answer buffer = left ≡ None
 TakesPrefix (Some bytes) left answer buffer =

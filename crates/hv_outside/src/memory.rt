@@ -1,3 +1,4 @@
+//! Files, input and output in memory, of which chosen calls fail.
 ghost use Rattle.std.specs.Prelude.{◌≡◌, ◌<◌, ◌≤◌, ℕ, List as ListOf, [], true, None, Some, OnOk, OnErr, IfOk, IsTrue, length, min, is_err, if◌then◌else◌};
 ghost use Rattle.std.specs.Option.{option_map};
 ghost use Rattle.std.specs.String.{string_bytes};
@@ -29,7 +30,8 @@ impl MemFiles {
     /// No file. The reads whose numbers are in `fails`, counted from 1, answer `Failed`, and no
     /// other read does.
     pub fn new(alloc: Global, fails: List<u64>) -> MemFiles
-        ensures holds_nothing { (name : ListOf ℕ) → (⟦<MemFiles as Files>⟧.state result).held name ≡ None }
+        ensures holds_nothing { (name : ListOf ℕ)
+            → (⟦<MemFiles as Files>⟧.state result).held name ≡ None }
         ensures no_fault { (⟦<MemFiles as Files>⟧.state result).faults ≡ 0 }
         ensures no_name { (⟦<MemFiles as Files>⟧.state result).failed_name ≡ None }
         ensures no_absence { (⟦<MemFiles as Files>⟧.state result).absences ≡ 0 }
@@ -77,14 +79,19 @@ impl Files for MemFiles {
 
         // As the trait has it.
         ensures within_limit { IfOk result IsWithinLimit }
-        ensures as_held { IfOk result (GivesHeld ((⟦<MemFiles as Files>⟧.state self.old).held name.now)) }
+        ensures as_held { IfOk result
+            (GivesHeld ((⟦<MemFiles as Files>⟧.state self.old).held name.now)) }
         ensures faults { RoseIf (is_read_fault result)
-            (⟦<MemFiles as Files>⟧.state self.old).faults (⟦<MemFiles as Files>⟧.state self.new).faults }
+            (⟦<MemFiles as Files>⟧.state self.old).faults
+            (⟦<MemFiles as Files>⟧.state self.new).faults }
         ensures absences { RoseIf (is_absence result)
-            (⟦<MemFiles as Files>⟧.state self.old).absences (⟦<MemFiles as Files>⟧.state self.new).absences }
+            (⟦<MemFiles as Files>⟧.state self.old).absences
+            (⟦<MemFiles as Files>⟧.state self.new).absences }
         ensures failed_name { (⟦<MemFiles as Files>⟧.state self.new).failed_name
-            ≡ (if is_read_fault result then Some name.now else (⟦<MemFiles as Files>⟧.state self.old).failed_name) }
-        ensures keeps { Keeps (⟦<MemFiles as Files>⟧.state self.old) (⟦<MemFiles as Files>⟧.state self.new) }
+            ≡ (if is_read_fault result then Some name.now
+            else (⟦<MemFiles as Files>⟧.state self.old).failed_name) }
+        ensures keeps { Keeps (⟦<MemFiles as Files>⟧.state self.old)
+            (⟦<MemFiles as Files>⟧.state self.new) }
     {
         if self.schedule.begin() {
             let copy = match String::from_str(alloc, name) {
@@ -108,8 +115,8 @@ pub struct MemSource {
 }
 
 impl MemSource {
-    /// All of `bytes` as the input. The reads whose numbers are in `fails`, counted from 1, fail, and
-    /// no other read does.
+    /// All of `bytes` as the input. The reads whose numbers are in `fails`, counted from 1, fail,
+    /// and no other read does.
     pub fn new(bytes: Text, fails: List<u64>) -> MemSource
         ensures left { (⟦<MemSource as Source>⟧.state result).left ≡ Some bytes }
         ensures no_fault { (⟦<MemSource as Source>⟧.state result).faults ≡ 0 }
@@ -138,8 +145,10 @@ impl Source for MemSource {
         ensures taken { TakesPrefix (⟦<MemSource as Source>⟧.state self.old).left
             (⟦<MemSource as Source>⟧.state self.new).left result buf.new }
         ensures faults { RoseIf (is_err result)
-            (⟦<MemSource as Source>⟧.state self.old).faults (⟦<MemSource as Source>⟧.state self.new).faults }
-        ensures faults_never_fall { (⟦<MemSource as Source>⟧.state self.old).faults ≤ (⟦<MemSource as Source>⟧.state self.new).faults }
+            (⟦<MemSource as Source>⟧.state self.old).faults
+            (⟦<MemSource as Source>⟧.state self.new).faults }
+        ensures faults_never_fall { (⟦<MemSource as Source>⟧.state self.old).faults
+            ≤ (⟦<MemSource as Source>⟧.state self.new).faults }
     {
         if self.schedule.begin() {
             self.faults = raised(self.faults);
@@ -201,8 +210,10 @@ impl Sink for MemSink {
         ensures added { Adds (⟦<MemSink as Sink>⟧.state self.old).written
             (⟦<MemSink as Sink>⟧.state self.new).written (taken result piece.now) }
         ensures faults { RoseIf (is_write_fault result)
-            (⟦<MemSink as Sink>⟧.state self.old).faults (⟦<MemSink as Sink>⟧.state self.new).faults }
-        ensures faults_never_fall { (⟦<MemSink as Sink>⟧.state self.old).faults ≤ (⟦<MemSink as Sink>⟧.state self.new).faults }
+            (⟦<MemSink as Sink>⟧.state self.old).faults
+            (⟦<MemSink as Sink>⟧.state self.new).faults }
+        ensures faults_never_fall { (⟦<MemSink as Sink>⟧.state self.old).faults
+            ≤ (⟦<MemSink as Sink>⟧.state self.new).faults }
     {
         if self.schedule.begin() {
             self.faults = raised(self.faults);

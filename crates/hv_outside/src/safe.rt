@@ -1,3 +1,4 @@
+//! Files, input and output in memory, of which no call fails.
 ghost use Rattle.std.specs.Prelude.{◌≡◌, ℕ, ◌≤◌, List, [], ◌++◌, length, drop, true, None, Some, OnOk, OnErr, IfOk};
 ghost use Rattle.indexmap.specs.IndexMap.{get_by_text};
 ghost use Rattle.hv_outside.specs.Files.{GivesHeld, IsWithinLimit, Puts, SameHeld};
@@ -22,7 +23,8 @@ pub struct SafeFiles {
 impl SafeFiles {
     /// No file. Names are copied into memory of `alloc`.
     pub fn new(alloc: Global) -> SafeFiles
-        ensures holds_nothing { (name : List ℕ) → (⟦<SafeFiles as Files>⟧.state result).held name ≡ None }
+        ensures holds_nothing { (name : List ℕ)
+            → (⟦<SafeFiles as Files>⟧.state result).held name ≡ None }
         ensures no_absence { (⟦<SafeFiles as Files>⟧.state result).absences ≡ 0 }
     {
         SafeFiles {
@@ -35,10 +37,13 @@ impl SafeFiles {
     /// Adds a file, or replaces the one of that name. Out of memory, all files stay as they were.
     pub fn put(&mut self, name: &str, bytes: Text) -> Result<(), Memory>
         ensures put { OnOk result
-            (Puts ((⟦<SafeFiles as Files>⟧.state self.old).held) ((⟦<SafeFiles as Files>⟧.state self.new).held) name.now bytes) }
+            (Puts ((⟦<SafeFiles as Files>⟧.state self.old).held)
+            ((⟦<SafeFiles as Files>⟧.state self.new).held) name.now bytes) }
         ensures unchanged { OnErr result
-            (SameHeld ((⟦<SafeFiles as Files>⟧.state self.old).held) ((⟦<SafeFiles as Files>⟧.state self.new).held)) }
-        ensures absences_stay { (⟦<SafeFiles as Files>⟧.state self.new).absences ≡ (⟦<SafeFiles as Files>⟧.state self.old).absences }
+            (SameHeld ((⟦<SafeFiles as Files>⟧.state self.old).held)
+            ((⟦<SafeFiles as Files>⟧.state self.new).held)) }
+        ensures absences_stay { (⟦<SafeFiles as Files>⟧.state self.new).absences
+            ≡ (⟦<SafeFiles as Files>⟧.state self.old).absences }
     {
         let name = String::from_str(self.alloc, name)?;
         self.files.insert(name, bytes)?;

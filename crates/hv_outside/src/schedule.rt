@@ -1,3 +1,4 @@
+//! Which calls fail, and counts that stand still at the end of their type.
 ghost use Rattle.std.specs.Prelude.{◌≡◌, ◌<◌, ◌+◌, ◌-◌, ◌^◌, min};
 ghost use Rattle.hv_outside.specs.Schedule.{Schedule as PublicSchedule, beginning, after_call, fails_next};
 

@@ -1,3 +1,4 @@
+//! What bytes are read from.
 ghost use Rattle.std.specs.Prelude.{◌<◌, ◌≤◌, length, IfOk, is_err};
 ghost use Rattle.hv_outside.specs.Count.{RoseIf};
 ghost use Rattle.hv_outside.specs.Source.{SourceState, TakesPrefix};
@@ -11,7 +12,8 @@ pub trait Source {
     /// The bytes that are left where they are told, and how many reads failed.
     ghost state: { Self → SourceState };
 
-    /// Writes the next bytes to the beginning of `buf` and answers how many: 0 at the end of the input.
+    /// Writes the next bytes to the beginning of `buf` and answers how many: 0 at the end of the
+    /// input.
     fn read_some(&mut self, buf: &mut [u8]) -> Result<usize, Failed>
         requires { 0 < length buf.old }
         ensures within { IfOk result (λ n. n ≤ length buf.old) }

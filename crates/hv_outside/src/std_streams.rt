@@ -1,3 +1,4 @@
+//! The standard input, output and error stream.
 ghost use Rattle.std.specs.Prelude.{◌≡◌, ◌<◌, ◌≤◌, ℕ, length, None, IfOk};
 
 use crate::schedule::raised;

@@ -1,3 +1,4 @@
+//! Each call once, in memory, with failing calls, and on real files.
 use super::*;
 use crate::std_files::read_whole;
 use hv_base::{List, Text};

@@ -6,7 +6,7 @@ use Rattle.hv_plain.specs.controlling.Grammar.{number, binary, conditional, Deri
 use Rattle.hv_plain.specs.controlling.Symbols.{punctuator}
 use Rattle.hv_plain.specs.controlling.Values.{operand}
 use Rattle.hv_plain.specs.declared.controlling.Operand.{Operand}
-use Rattle.hv_plain.specs.declared.controlling.Binary.TheVariants.{Divide, Subtract, ShiftLeft, ShiftRight, Greater, LessEqual, LogicalOr}
+use Rattle.hv_base.specs.declared.operator.BinaryOperator.TheVariants.{Divide, Subtract, ShiftLeft, ShiftRight, Greater, LessEqual, LogicalOr}
 use Rattle.hv_plain.specs.declared.controlling.Symbol.TheVariants.{Number, Operator, Other}
 
 abbrev int : ℕ → Operand
@@ -71,7 +71,8 @@ assignment : punctuator (codes "<<=") ≡ Other
 assignment = refl
 
 -- 1 || 1 / 0
-short : truth (binary LogicalOr (number (int 1)) (binary Divide (number (int 1)) (number (int 0)))) ≡ Some true
+short : truth (binary LogicalOr (number (int 1)) (binary Divide (number (int 1)) (number (int 0))))
+    ≡ Some true
 short = refl
 
 by_zero : truth (binary Divide (number (int 1)) (number (int 0))) ≡ None
@@ -94,12 +95,15 @@ sign_copied : value (binary ShiftRight (number (minus 5)) (number (int 1))) ≡ 
 sign_copied = refl
 
 -- 1 ? -1 : 1 / 0u has the type of both arms
-both_arms : value (conditional (number (int 1)) (number (minus 1)) (binary Divide (number (int 1)) (number (unsigned 0)))) ≡ unsigned (2 ^ 64 - 1)
+both_arms : value (conditional (number (int 1)) (number (minus 1))
+    (binary Divide (number (int 1)) (number (unsigned 0)))) ≡ unsigned (2 ^ 64 - 1)
 both_arms = refl
 
 -- 3 - 2 - 1 groups to the left
-grouped : Derives 9 (Number (int 3) ∷ Operator Subtract ∷ Number (int 2) ∷ Operator Subtract ∷ Number (int 1) ∷ [])
+grouped : Derives 9 (Number (int 3) ∷ Operator Subtract ∷ Number (int 2) ∷ Operator Subtract ∷
+    Number (int 1) ∷ [])
     (binary Subtract (binary Subtract (number (int 3)) (number (int 2))) (number (int 1)))
 grouped =
     a_binary {ts = Number (int 3) ∷ Operator Subtract ∷ Number (int 2) ∷ []} Subtract
-    (a_binary {ts = Number (int 3) ∷ []} Subtract (a_higher (a_higher (a_number (int 3)))) (a_higher (a_number (int 2)))) (a_higher (a_number (int 1)))
+    (a_binary {ts = Number (int 3) ∷ []} Subtract (a_higher (a_higher (a_number (int 3))))
+    (a_higher (a_number (int 2)))) (a_higher (a_number (int 1)))

@@ -4,7 +4,6 @@ pub mod EpisodeFaces
 mod EpisodeRows
 pub mod EpisodeStates
 pub mod OptionVariables
-pub mod Places
 mod Rows
 pub mod SmallAnswer
 pub mod SmallCompleteness

@@ -16,7 +16,8 @@ body_1 : List SourceLine
 body_1 = put 120 ∷ if_defined (codes "A") ∷ put 65 ∷ end_if ∷ []
 
 source_1 : List ℕ
-source_1 = codes "int putchar(int);\nint main(void) {\n    putchar(120);\n#ifdef A\n\tputchar(65); \n#endif\n}\n"
+source_1 =
+    codes "int putchar(int);\nint main(void) {\n    putchar(120);\n#ifdef A\n\tputchar(65); \n#endif\n}\n"
 
 source_1_lines : map trimmed (slice_split is_newline source_1) ≡ source_lines body_1 ++ [] ∷ []
 unfolding source_1 body_1 digits
@@ -32,7 +33,9 @@ without_A = refl
 
 -- an `#else` within a skipped group is read in neither way
 nested_groups : List SourceLine
-nested_groups = if_not_defined (codes "A") ∷ if_defined (codes "A") ∷ put 1 ∷ otherwise ∷ put 2 ∷ end_if ∷ otherwise ∷ put 3 ∷ end_if ∷ []
+nested_groups =
+    if_not_defined (codes "A") ∷ if_defined (codes "A") ∷ put 1 ∷ otherwise ∷ put 2 ∷ end_if ∷
+    otherwise ∷ put 3 ∷ end_if ∷ []
 
 nested_with_A : kept (is_on options_A (true ∷ [])) [] nested_groups ≡ 3 ∷ []
 unfolding options_A nested_groups
@@ -49,10 +52,18 @@ is_well_nested = refl
 product_1 : Program
 product_1 = record {
   variables = variable_of (codes "A") ∷ [];
-  statements = record { test = []; byte = 120 } ∷ record { test = record { variable = variable_of (codes "A"); negated = false } ∷ []; byte = 65 } ∷ [];
+  statements =
+      record { test = []; byte = 120 } ∷
+      record {
+        test = record { variable = variable_of (codes "A"); negated = false } ∷ [];
+        byte =
+            65;
+      } ∷ [];
 }
 
-printed_1 : shown (program_tokens product_1) ≡ codes "extern int hv_opt_A ;\nint putchar ( int ) ;\nint main ( void ) {\nputchar ( 120 ) ;\nif ( hv_opt_A ) putchar ( 65 ) ;\n}\n"
+printed_1 : shown (program_tokens product_1)
+    ≡ codes
+    "extern int hv_opt_A ;\nint putchar ( int ) ;\nint main ( void ) {\nputchar ( 120 ) ;\nif ( hv_opt_A ) putchar ( 65 ) ;\n}\n"
 unfolding product_1 digits
 printed_1 = refl
 

@@ -3,6 +3,7 @@
 use Rattle.std.specs.Prelude.{ℕ, ◌≡◌, ◌<◌, Bool, cond, ◌||◌, List, [], ◌∷◌, ◌++◌, codes, decimal, Contains, All}
 use Rattle.std.specs.List.{slice_split, flat_map}
 use Rattle.std.specs.Str.{bytes_eq}
+use Rattle.hv_base.specs.Ascii.{newline, space}
 use Rattle.hv_plain.specs.Bytes.{is_gap}
 
 -- an operand of a test: a variable, or its negation
@@ -69,7 +70,7 @@ ends_a_line token =
 
 -- a token as it is printed: a newline after `;`, `{` and `}`, else one space
 abbrev pub shown_token : List ℕ → List ℕ
-shown_token token = token ++ cond (ends_a_line token) 10 32 ∷ []
+shown_token token = token ++ cond (ends_a_line token) newline space ∷ []
 
 -- the printed form of tokens
 abbrev pub shown : List (List ℕ) → List ℕ

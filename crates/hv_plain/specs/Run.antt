@@ -32,8 +32,8 @@ output_of value (statement ∷ more) =
     (statement.byte ∷ output_of value more)
     (output_of value more)
 
--- the run with these values of the option variables, this input and this many steps: a small program
--- takes no input and no step, meets nothing undefined, and ends with 0 (5.1.2.2.3)
+-- the run with these values of the option variables, this input and this many steps: a small
+-- program takes no input and no step, meets nothing undefined, and ends with 0 (5.1.2.2.3)
 abbrev pub run : Program → (List ℕ → ℕ) → List ℕ → ℕ → Run
 run program value input steps =
     record { output = output_of value program.statements; taken = 0; ending = ended 0 }
@@ -127,9 +127,9 @@ pub data OneEach (model : Features) (body : List SourceLine)
       → ¬ (HasLine model body number) → OneEach model body (suc number) bytes statements
       → OneEach model body number (byte ∷ bytes) statements
 
--- the text is a typed program, one for all configurations, that runs as the source's variants; it is
--- printed, declares the model's variables in order, and has exactly one statement for each line of
--- the source that writes a byte and that some valid configuration has, in order
+-- the text is a typed program, one for all configurations, that runs as the source's variants; it
+-- is printed, declares the model's variables in order, and has exactly one statement for each line
+-- of the source that writes a byte and that some valid configuration has, in order
 pub record Encodes (model : Features) (source : List ℕ) (text : List ℕ) : Type 0 where
   pub product : Program
   pub reads : IsProgramText (variables_of model.names) text product

@@ -4,6 +4,7 @@
 use Rattle.std.specs.Prelude.{ℕ, suc, ◌==◌, ◌≡◌, ◌<◌, Bool, true, false, cond, not, ◌&&◌, nat_lt, List, [], ◌∷◌, ◌++◌, length, map, codes, decimal, Contains, IsTrue, All}
 use Rattle.std.specs.List.{slice_split, list_all, list_any}
 use Rattle.hv_base.specs.Ascii.{is_newline}
+use Rattle.hv_base.specs.declared.limits.TheConstants.{MOST_GROUPS}
 use Rattle.hv_plain.specs.Bytes.{trimmed}
 
 -- a line of the body
@@ -38,16 +39,16 @@ IsSourceLine options (if_not_defined name) = Contains options name
 IsSourceLine options otherwise = Unit {0}
 IsSourceLine options end_if = Unit {0}
 
--- every group is closed, has at most one `#else`, and at most 256 are open (6.10);
+-- every group is closed, has at most one `#else`, and at most `MOST_GROUPS` are open (6.10);
 -- `groups` says of each open group, the innermost first, whether its `#else` was seen
 abbrev pub is_nested : List Bool → List SourceLine → Bool
 is_nested [] [] = true
 is_nested (_ ∷ _) [] = false
 is_nested groups (put _ ∷ lines) = is_nested groups lines
 is_nested groups (if_defined _ ∷ lines) =
-    nat_lt (length groups) 256 && is_nested (false ∷ groups) lines
+    nat_lt (length groups) MOST_GROUPS && is_nested (false ∷ groups) lines
 is_nested groups (if_not_defined _ ∷ lines) =
-    nat_lt (length groups) 256 && is_nested (false ∷ groups) lines
+    nat_lt (length groups) MOST_GROUPS && is_nested (false ∷ groups) lines
 is_nested [] (otherwise ∷ lines) = false
 is_nested (had_else ∷ groups) (otherwise ∷ lines) = not had_else && is_nested (true ∷ groups) lines
 is_nested [] (end_if ∷ lines) = false

@@ -1,3 +1,4 @@
+-- Controlling expressions. Read Grammar, then Values, Constants and Symbols.
 pub mod Constants
 pub mod Grammar
 pub mod Symbols

@@ -1,34 +1,18 @@
 //! What controlling expressions are made of (ISO/IEC 9899:1999, 6.6, 6.10.1).
 
-/// A binary operator (ISO/IEC 9899:1999, 6.5.5 to 6.5.14).
-#[derive(Clone, Copy, Debug, PartialEq, Eq)]
-pub enum Binary {
-    Multiply,
-    Divide,
-    Remainder,
-    Add,
-    Subtract,
-    ShiftLeft,
-    ShiftRight,
-    Less,
-    Greater,
-    LessEqual,
-    GreaterEqual,
-    Equal,
-    NotEqual,
-    And,
-    ExclusiveOr,
-    Or,
-    LogicalAnd,
-    LogicalOr,
-}
+use hv_base::BinaryOperator;
 
-/// A unary operator (ISO/IEC 9899:1999, 6.5.3.3).
+/// A unary operator of a controlling expression, in which `&` and `*` stand before no operand
+/// (ISO/IEC 9899:1999, 6.5.3.3).
 #[derive(Clone, Copy, Debug, PartialEq, Eq)]
 pub enum Unary {
+    /// `+`
     Plus,
+    /// `-`
     Minus,
+    /// `~`
     Complement,
+    /// `!`
     Not,
 }
 
@@ -47,12 +31,18 @@ pub enum Symbol {
     /// A constant or an identifier, and its value.
     Number(Operand),
     /// A binary operator; two of them are unary operators too.
-    Operator(Binary),
+    Operator(BinaryOperator),
+    /// `~`
     Complement,
+    /// `!`
     Not,
+    /// `(`
     Open,
+    /// `)`
     Close,
+    /// `?`
     Question,
+    /// `:`
     Colon,
     /// What stands in no expression.
     Other,

@@ -1,5 +1,5 @@
-//! The definitions that the promises of Hercules are stated by, for controlling expressions, small sources
-//! and small programs, and the plain functions that compute them.
+//! The definitions that the promises of Hercules are stated by, for controlling expressions, small
+//! sources and small programs, and the plain functions that compute them.
 #![tactic(auto)]
 
 mod controlling;
@@ -8,7 +8,7 @@ mod gathering;
 mod numeral;
 mod small;
 
-pub use controlling::{Binary, Operand, Symbol, Unary};
+pub use controlling::{Operand, Symbol, Unary};
 pub use episode::{RunEnd, face_decides};
 pub use gathering::builtin_header;
 pub use numeral::byte_of;

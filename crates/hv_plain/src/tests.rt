@@ -1,10 +1,11 @@
+//! Small programs run, in each configuration.
 use super::*;
 use hv_base::{Config, List};
 use hv_model::{Model, read_model};
 use std::test::Fail;
 
 #[test]
-fn small_programs_put_their_bytes(rt: HostRuntime) -> Result<(), Fail> {
+fn small_programs_write_their_bytes(rt: HostRuntime) -> Result<(), Fail> {
     let table = [
         ("int putchar ( int ) ;\nint main ( void ) {\n}\n", Some("")),
         (

@@ -9,18 +9,33 @@ use Rattle.hv_toks.specs.declared.token.PpTok.{PpTok}
 use Rattle.hv_toks.specs.Cutting.{IsCut, tokens, open_comment, at_end, at_white, at_newline, at_comment, at_open_comment, at_token, prefix, found}
 
 tok : PpKind → ℕ → ℕ → List ℕ → Bool → Bool → PpTok
-tok kind start end text space first = record { kind = kind; span = record { file = 0; start = start; end = end }; text = text; space = space; first = first }
+tok kind start end text space first =
+    record {
+      kind = kind;
+      span = record { file = 0; start = start; end = end };
+      text = text;
+      space =
+          space;
+      first = first;
+    }
 
 -- the longest punctuator first
-sum : IsCut 0 (codes "a+++b") (tokens (tok Identifier 0 1 (codes "a") false true ∷ tok Punctuator 1 3 (codes "++") false false
+sum : IsCut 0 (codes "a+++b")
+    (tokens (tok Identifier 0 1 (codes "a") false true ∷ tok Punctuator 1 3 (codes "++") false false
     ∷ tok Punctuator 3 4 (codes "+") false false ∷ tok Identifier 4 5 (codes "b") false false ∷ []))
 unfolding tok
-sum = at_token (found Identifier 1) refl (at_token (found Punctuator 2) refl (at_token (found Punctuator 1) refl (at_token (found Identifier 1) refl (at_end refl))))
+sum = at_token (found Identifier 1) refl
+    (at_token (found Punctuator 2) refl
+    (at_token (found Punctuator 1) refl (at_token (found Identifier 1) refl (at_end refl))))
 
 -- a comment is white space
-comment : IsCut 0 (codes "x/**/y") (tokens (tok Identifier 0 1 (codes "x") false true ∷ tok Identifier 5 6 (codes "y") true false ∷ []))
+comment : IsCut 0 (codes "x/**/y")
+    (tokens (tok Identifier 0 1 (codes "x") false true ∷ tok Identifier 5 6 (codes "y") true false ∷
+    []))
 unfolding tok
-comment = at_token (found Identifier 1) refl (at_comment 4 refl (at_token (found Identifier 1) refl (at_end refl)))
+comment =
+    at_token (found Identifier 1) refl
+    (at_comment 4 refl (at_token (found Identifier 1) refl (at_end refl)))
 
 -- a quote that is not closed on its line
 unclosed : IsCut 0 (codes "'ab" ++ 10 ∷ []) (tokens (tok Other 0 3 (codes "'ab") false true ∷ []))
@@ -31,15 +46,21 @@ open_at : IsCut 0 (codes "x /*/") (open_comment 2)
 open_at = at_token (found Identifier 1) refl (at_white refl (at_open_comment refl))
 
 -- a token over two lines: `i\` and `f`
-splice : IsCut 0 (105 ∷ 92 ∷ 13 ∷ 10 ∷ 102 ∷ 10 ∷ []) (tokens (tok Identifier 0 5 (codes "if") false true ∷ []))
+splice : IsCut 0 (105 ∷ 92 ∷ 13 ∷ 10 ∷ 102 ∷ 10 ∷ [])
+    (tokens (tok Identifier 0 5 (codes "if") false true ∷ []))
 unfolding tok
 splice = at_token (found Identifier 2) refl (at_newline refl (at_end refl))
 
 -- a header name, in which no comment begins
-header : IsCut 0 (codes "#include <a//b>") (tokens (tok Punctuator 0 1 (codes "#") false true ∷ tok Identifier 1 8 (codes "include") false false
+header : IsCut 0 (codes "#include <a//b>")
+    (tokens (tok Punctuator 0 1 (codes "#") false true ∷
+    tok Identifier 1 8 (codes "include") false false
     ∷ tok HeaderName 9 15 (codes "<a//b>") true false ∷ []))
 unfolding tok
-header = at_token (found Punctuator 1) refl (at_token (found Identifier 7) refl (at_white refl (at_token (found HeaderName 6) refl (at_end refl))))
+header =
+    at_token (found Punctuator 1) refl
+    (at_token (found Identifier 7) refl
+    (at_white refl (at_token (found HeaderName 6) refl (at_end refl))))
 
 -- elsewhere it is none
 no_header : prefix Rest (codes "<a>") ≡ Token (found Punctuator 1)

@@ -55,7 +55,7 @@ longest_token text =
     (longer (found StringLiteral (longest is_string_literal text))
     (found Punctuator (longest is_punctuator text)))))
 
--- a quote that is not closed on its line goes with all the line, and another byte alone
+-- a quote that is not closed on its line goes with all the line, and another byte by itself
 abbrev pub other : List ℕ → Match
 other [] = found Other 0
 other (byte ∷ bytes) = found Other (cond (byte == ascii.apostrophe || byte == ascii.quote)

@@ -24,8 +24,8 @@ abbrev pub conditions : List Failing → List Cond
 conditions failing = map (λ f. f.cond) failing
 
 -- each configuration of `valid`, and no other one, is in `good` or in one entry, and not in two of
--- them; each entry has some configuration, while `good` may have none; no two entries have one place
--- and one cause
+-- them; each entry has some configuration, while `good` may have none; no two entries have one
+-- place and one cause
 pub record Divides (diagram : Diagram) (valid good : Cond) (failing : List Failing) : Type 0 where
   pub nodes : AllNodes diagram (good ∷ conditions failing)
   pub none_false : NoneFalse diagram (conditions failing)
@@ -33,8 +33,8 @@ pub record Divides (diagram : Diagram) (valid good : Cond) (failing : List Faili
       ≡ (if holds diagram valid values then 1 else 0)
   pub distinct : AreDistinct failing
 
--- an answer divides the valid configurations; in each of `good` its value is right, and in each of an
--- entry the refusal is right, as these two say for one configuration
+-- an answer divides the valid configurations; in each of `good` its value is right, and in each of
+-- an entry the refusal is right, as these two say for one configuration
 pub record Sorts {T : Type 0} (diagram : Diagram) (valid : Cond) (IsRight : List Bool → T → Type 0)
     (IsRefused : List Bool → Place → Why → Type 0) (answer : Parted T) : Type 0 where
   pub divides : Divides diagram valid answer.good answer.failing

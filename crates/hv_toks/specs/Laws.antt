@@ -107,8 +107,9 @@ meaning_of-add entries entry name = meaning_after-append _ entries (entry ∷ []
 ------ Divides
 
 -- a store that grows keeps how an answer divides the configurations
-pub Divides-kept : {old new : Diagram} → Keeps old new → (valid good : Cond) (failing : List Failing)
-    → IsNode old valid → Divides old valid good failing → Divides new valid good failing
+pub Divides-kept : {old new : Diagram} → Keeps old new → (valid good : Cond)
+    (failing : List Failing) → IsNode old valid → Divides old valid good failing
+    → Divides new valid good failing
 Divides-kept {old} {new} keeps valid good failing node h =
     record {
       nodes = AllNodes-kept keeps (good ∷ conditions failing) h.nodes;
@@ -118,7 +119,8 @@ Divides-kept {old} {new} keeps valid good failing node h =
       distinct = h.distinct;
     }
 
--- an answer without failing configurations, and with some, divides them as the parts of a condition do
+-- an answer without failing configurations, and with some, divides them as the parts of a condition
+-- do
 pub Divides-partition : (diagram : Diagram) (valid good : Cond) (failing : List Failing)
     → Divides diagram valid good failing → (¬ IsNever diagram good)
     → IsPartition diagram valid (good ∷ conditions failing)

@@ -5,7 +5,7 @@ use Rattle.std.specs.Prelude.{ℕ, zero, suc, Bool, true, false, cond, not, ◌&
 use Rattle.std.specs.List.{list_all, list_any}
 use Rattle.std.specs.Str.{bytes_eq}
 use Rattle.hv_base.specs.Ascii as ascii
-use Rattle.hv_base.specs.Ascii.{is_digit, is_identifier_byte, is_nondigit}
+use Rattle.hv_base.specs.Ascii.{is_digit, is_empty, is_identifier_byte, is_nondigit}
 
 -- the length of the longest prefix of the text, other than the empty one, that passes the test; 0
 -- where there is none
@@ -49,11 +49,6 @@ begins_with_digit (byte ∷ bytes) = is_digit byte && continues_number false byt
 -- preprocessing number (6.4.8)
 abbrev pub is_number : List ℕ → Bool
 is_number text = optional ascii.dot begins_with_digit text
-
--- a text without bytes
-abbrev pub is_empty : List ℕ → Bool
-is_empty [] = true
-is_empty (_ ∷ _) = false
 
 -- what may stand after an opening quote, up to and with the closing one, all on one line. Where
 -- `escapes` holds, a backslash and the byte after it go together; `escaped` says that a backslash

@@ -1,3 +1,4 @@
+//! What macros are defined as.
 use crate::PpTok;
 use hv_base::{List, Place, Text};
 use std::rc::Rc;

@@ -1,3 +1,4 @@
+//! What the tokens of a line before a place are.
 use crate::PpKind;
 
 /// What stands on a line before the next token, as far as the cutting asks for it.
@@ -5,9 +6,9 @@ use crate::PpKind;
 pub enum LinePrefix {
     /// No token yet.
     Start,
-    /// `#` alone.
+    /// Only `#`.
     Hash,
-    /// `#` and `include` alone.
+    /// Only `#` and `include`.
     Include,
     /// Other tokens.
     Rest,

@@ -1,3 +1,4 @@
+//! Each call once, and rows of constants.
 ghost use Rattle.std.specs.Prelude.{◌≡◌, ◌⊎◌, All, IfOk};
 
 use super::*;

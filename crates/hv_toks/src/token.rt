@@ -1,3 +1,4 @@
+//! Preprocessing tokens.
 ghost use Rattle.std.specs.Prelude.{◌≡◌, IfOk};
 
 use hv_base::{Memory, Span, Text};

@@ -1,1 +1,2 @@
+-- The container that this crate's list is.
 pub mod List

@@ -1,3 +1,4 @@
+//! What the program answers.
 ghost use Rattle.std.specs.Prelude.{◌≡◌, ◌++◌, IfOk, codes};
 ghost use Rattle.std.specs.List.{flat_map};
 ghost use Rattle.hv_encode.specs.Answer.{message_of, output_of, status_of};

@@ -1,3 +1,4 @@
+//! The commands.
 ghost use Rattle.std.specs.Prelude.{◌≡◌, Bool, List, None, IfOk, map};
 ghost use Rattle.std.specs.String.{string_bytes};
 ghost use Rattle.hv_outside.specs.Files.{Keeps};

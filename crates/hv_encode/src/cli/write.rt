@@ -1,3 +1,4 @@
+//! Writing an answer.
 ghost use Rattle.std.specs.Prelude.{◌≡◌, ◌≤◌, ◌⊎◌, [], IfOk};
 ghost use Rattle.hv_base.specs.Status.{code_of};
 ghost use Rattle.hv_outside.specs.Count.{Rose};

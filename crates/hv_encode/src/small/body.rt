@@ -1,3 +1,4 @@
+//! The body of a small source.
 ghost use Rattle.std.specs.Prelude.{◌≡◌, ◌<◌, ◌++◌, [], ◌∷◌, ℕ, List, Some, IfOk, IfSome, IfNone, codes, length, map, position};
 ghost use Rattle.std.specs.List.{All, slice_split};
 ghost use Rattle.hv_base.specs.Ascii.{is_newline};

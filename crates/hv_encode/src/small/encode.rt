@@ -1,3 +1,4 @@
+//! A small source to its metaproduct.
 ghost use Rattle.std.specs.Prelude.{◌≡◌, List, IfOk, IfSome, IfNone};
 ghost use Rattle.hv_cond.specs.Diagram.{Keeps};
 ghost use Rattle.hv_plain.specs.Run.{Encodes};

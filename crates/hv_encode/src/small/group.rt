@@ -1,3 +1,4 @@
+//! Open groups, each with what a line below it needs.
 ghost use Rattle.std.specs.Prelude.{◌≡◌, ◌≤◌, ◌<◌, ◌∷◌, Bool, List, ℕ, cond, false, IsTrue, IfOk, OnOk};
 ghost use Rattle.std.specs.List.{list_any};
 ghost use Rattle.hv_cond.specs.Diagram.{IsNode, Keeps, holds, value_of};

@@ -1,3 +1,4 @@
+//! Lines to statements after the tests of their groups.
 ghost use Rattle.std.specs.Prelude.{◌≡◌, ◌≤◌, ◌<◌, [], ◌∷◌, Bool, List, ℕ, IsTrue, IfOk, IfSome, OnOk, MatchBool, map, reverse, length, is_some, false};
 ghost use Rattle.std.specs.List.{All};
 ghost use Rattle.hv_cond.specs.Diagram.{IsNode, Keeps};

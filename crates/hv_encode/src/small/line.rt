@@ -1,3 +1,4 @@
+//! One line of a body.
 ghost use Rattle.std.specs.Prelude.{◌≡◌, ◌≢◌, ◌<◌, ◌++◌, ℕ, List, IfSome, IfNone, decimal, codes, Contains};
 ghost use Rattle.hv_plain.specs.Source.{SourceLine, put, spelled, IsSourceLine};
 ghost use Rattle.hv_encode.specs.working.Lines.{name_at, plain, IsOption, IsKnown};

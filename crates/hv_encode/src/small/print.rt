@@ -1,3 +1,4 @@
+//! The printed form of a metaproduct.
 ghost use Rattle.std.specs.Prelude.{◌≡◌, ◌<◌, ◌++◌, [], List, ℕ, length, map, IfOk, OnOk, cond, codes};
 ghost use Rattle.std.specs.List.{All, flat_map};
 ghost use Rattle.hv_model.specs.Name.{AllOptionNames};

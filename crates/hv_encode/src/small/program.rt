@@ -1,3 +1,4 @@
+//! A metaproduct as a value.
 use hv_base::{List, Text};
 
 /// A test of an option: that the one of this number is on, or off if negated.

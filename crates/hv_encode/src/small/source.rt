@@ -1,3 +1,4 @@
+//! The lines of a small source.
 ghost use Rattle.std.specs.Prelude.{◌∷◌, ◌++◌, [], List, ℕ, IfOk, IfSome, IfNone, IsTrue, map, codes};
 ghost use Rattle.std.specs.List.{All};
 ghost use Rattle.hv_plain.specs.Source.{SourceLine, IsSmallSource, spelled};

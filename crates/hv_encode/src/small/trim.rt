@@ -1,5 +1,6 @@
+//! Blanks at the ends of a line.
 ghost use Rattle.std.specs.Prelude.{◌≡◌, reverse};
-ghost use Rattle.hv_model.specs.Bytes.{without_front_blanks as without_front};
+ghost use Rattle.hv_model.specs.Bytes.{without_leading_blanks as without_front};
 ghost use Rattle.hv_plain.specs.Bytes.{trimmed as trimmed_text};
 
 use hv_base::is_blank;

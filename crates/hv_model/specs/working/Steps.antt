@@ -3,6 +3,7 @@ use Rattle.std.specs.Prelude.{ℕ, ◌≤◌, Bool, true, false, ◌&&◌, ◌||
 use Rattle.std.specs.List.{list_all, slice_index_or}
 use Rattle.hv_model.specs.Rule.{Rule, option, negation, conjunction, disjunction, implication}
 use Rattle.hv_model.specs.declared.code.Step.{Step}
+use Rattle.hv_model.specs.declared.truths.TheConstants.{ROOM}
 use Rattle.hv_model.specs.declared.code.Step.TheVariants.{Option, Not, And, Or, Suppose, SupposeToo, Conclude}
 
 -- what stands on the stack: a rule, or the premises of an implication that is not ended, the last
@@ -103,9 +104,9 @@ abbrev pub IsOperator : Step → Type 0
 IsOperator (Option i) = ⊥
 IsOperator _ = Unit {0}
 
--- the stack never has more than 1024 items
+-- the stack never has more items than there is room for
 abbrev pub IsLow : List Step → Type 0
-IsLow steps = (k : ℕ) → length (items_of (take k steps)) ≤ 1024
+IsLow steps = (k : ℕ) → length (items_of (take k steps)) ≤ ROOM
 
 -- the last two values as a conjunction
 abbrev pub both_of : List Bool → List Bool

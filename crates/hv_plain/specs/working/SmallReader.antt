@@ -7,11 +7,11 @@ use Rattle.std.specs.Str.{bytes_eq}
 use Rattle.hv_plain.specs.Bytes.{is_gap}
 use Rattle.hv_base.specs.Ascii.{is_digit}
 use Rattle.hv_plain.specs.declared.small.reader.Due.{Due}
-use Rattle.hv_plain.specs.declared.small.reader.Step.{Step}
+use Rattle.hv_plain.specs.declared.small.reader.TokenReading.{TokenReading}
 use Rattle.hv_plain.specs.declared.small.reader.State.{State}
 use Rattle.hv_plain.specs.declared.small.reader.State.TheVariants.{Declarations, Variable, Body, Operand, Negated, AfterOperand, Byte, End}
 use Rattle.hv_plain.specs.declared.small.reader.Action.{Action}
-use Rattle.hv_plain.specs.declared.small.reader.Action.TheVariants.{Nothing, Declare, Put}
+use Rattle.hv_plain.specs.declared.small.reader.Action.TheVariants.{Nothing, Declare, Write}
 
 -- what is due, with the words as texts
 pub record Wanted : Type 0 where
@@ -28,7 +28,7 @@ abbrev pub wanted_of : Due → Wanted
 wanted_of due = record { words = map (λ word. word.now) due.words.now; state = due.state }
 
 -- what the code's values mean: the reading of a token
-abbrev pub reading_of : Step → Reading
+abbrev pub reading_of : TokenReading → Reading
 reading_of step = record { due = wanted_of step.due; action = step.action }
 
 -- these words are due, and then this state
@@ -94,31 +94,31 @@ next_in_body token =
     (cond (bytes_eq token (codes "}")) (moved ([] ∷ []) End) None))
 
 -- the reading of a variable in a test, by its value
-abbrev pub behind_operand : Bool → Option Bool → Option Reading
-behind_operand holds None = None
-behind_operand holds (Some value) = moved [] (AfterOperand (holds && value))
+abbrev pub after_variable : Bool → Option Bool → Option Reading
+after_variable holds None = None
+after_variable holds (Some value) = moved [] (AfterOperand (holds && value))
 
 -- the reading of a negated variable in a test, by its value
-abbrev pub behind_negated : Bool → Option Bool → Option Reading
-behind_negated holds None = None
-behind_negated holds (Some value) = moved [] (AfterOperand (holds && not value))
+abbrev pub after_negated : Bool → Option Bool → Option Reading
+after_negated holds None = None
+after_negated holds (Some value) = moved [] (AfterOperand (holds && not value))
 
 -- the reading of the `!` or the variable at which a literal begins
 abbrev pub next_at_operand : Bool → Option Bool → List ℕ → Option Reading
 next_at_operand holds value token =
-    cond (bytes_eq token (codes "!")) (moved [] (Negated holds)) (behind_operand holds value)
+    cond (bytes_eq token (codes "!")) (moved [] (Negated holds)) (after_variable holds value)
 
 -- the reading of what stands after a literal
-abbrev pub next_behind_operand : Bool → List ℕ → Option Reading
-next_behind_operand holds token =
+abbrev pub next_after_operand : Bool → List ℕ → Option Reading
+next_after_operand holds token =
     cond (bytes_eq token (codes "&&")) (moved [] (Operand holds))
     (cond (bytes_eq token (codes ")")) (moved (codes "putchar" ∷ codes "(" ∷ []) (Byte holds)) None)
 
 -- the reading of the argument of `putchar`, which is written where the test holds
-abbrev pub behind_byte : Bool → Option ℕ → Option Reading
-behind_byte holds None = None
-behind_byte holds (Some byte) =
-    Some (reading (codes ")" ∷ codes ";" ∷ []) Body (cond holds (Put byte) Nothing))
+abbrev pub after_argument : Bool → Option ℕ → Option Reading
+after_argument holds None = None
+after_argument holds (Some byte) =
+    Some (reading (codes ")" ∷ codes ";" ∷ []) Body (cond holds (Write byte) Nothing))
 
 -- the reading of a token in a state
 abbrev pub next_in : List (List ℕ) → List (Option Bool) → State → List ℕ → Option Reading
@@ -128,9 +128,9 @@ next_in names known Body token = next_in_body token
 next_in names known (Operand holds) token =
     next_at_operand holds (known_value names known token) token
 next_in names known (Negated holds) token =
-    behind_negated holds (known_value names known token)
-next_in names known (AfterOperand holds) token = next_behind_operand holds token
-next_in names known (Byte holds) token = behind_byte holds (byte_of token)
+    after_negated holds (known_value names known token)
+next_in names known (AfterOperand holds) token = next_after_operand holds token
+next_in names known (Byte holds) token = after_argument holds (byte_of token)
 next_in names known End token = None
 
 -- the words that are due come first
@@ -148,19 +148,19 @@ next names known due token = next_by names known due.words due.state token
 abbrev pub IsWithin : ℕ → Action → Type 0
 IsWithin n Nothing = Unit {0}
 IsWithin n (Declare i) = i < n
-IsWithin n (Put _) = Unit {0}
+IsWithin n (Write _) = Unit {0}
 
 -- the values of the declared variables, after an action
 abbrev pub known_after : List Bool → Action → List (Option Bool) → List (Option Bool)
 known_after values Nothing known = known
 known_after values (Declare i) known = slice_set known i (slice_get values i)
-known_after values (Put byte) known = known
+known_after values (Write byte) known = known
 
 -- the output after an action
 abbrev pub output_after : Action → List ℕ → List ℕ
 output_after Nothing output = output
 output_after (Declare i) output = output
-output_after (Put byte) output = output ++ byte ∷ []
+output_after (Write byte) output = output ++ byte ∷ []
 
 -- whether the program is at its end
 abbrev pub is_end : State → Bool
@@ -195,7 +195,7 @@ start_due = wanted [] Declarations
 abbrev pub unknown : List (List ℕ) → List (Option Bool)
 unknown names = replicate (length names) None
 
--- the output of the program that a text is, or `None` where it is none
+-- the output of the program that a text is, or `None` where it isn't one
 abbrev pub answer : List (List ℕ) → List Bool → List ℕ → Option (List ℕ)
 answer names values text =
     run_from names values start_due (unknown names) [] (slice_split is_gap text)

@@ -1,8 +1,9 @@
+//! Reading and running a small program, token by token.
 ghost use Rattle.std.specs.Prelude.{◌≡◌, length, map, IfOk, OnOk};
 ghost use Rattle.std.specs.Option.{option_map};
 ghost use Rattle.hv_plain.specs.Bytes.{is_gap};
 ghost use Rattle.hv_plain.specs.declared.small.reader.Action.TheVariants.{Nothing};
-ghost use Rattle.hv_plain.specs.working.SmallReader.{IsWithin, answer, behind_byte, behind_negated, byte_of, declared, known_value, is_done, known_after, next, next_at_operand, next_behind_operand, next_in, next_in_body, next_in_declarations, option_number, output_after, reading, reading_of, wanted_of};
+ghost use Rattle.hv_plain.specs.working.SmallReader.{IsWithin, answer, after_argument, after_negated, byte_of, declared, known_value, is_done, known_after, next, next_at_operand, next_after_operand, next_in, next_in_body, next_in_declarations, option_number, output_after, reading, reading_of, wanted_of};
 
 use crate::numeral::read_digits;
 use hv_base::{Config, Memory, Text};
@@ -14,8 +15,8 @@ const REST_OF_HEAD: [&str; 11] = [
     "putchar", "(", "int", ")", ";", "int", "main", "(", "void", ")", "{",
 ];
 
-/// Where a small program goes on. A `bool` says whether the literals of the test that have been read
-/// all hold.
+/// Where a small program goes on. A `bool` says whether the literals of the test that have been
+/// read all hold.
 #[derive(Clone, Copy)]
 enum State {
     /// At a declaration.
@@ -28,11 +29,11 @@ enum State {
     Operand(bool),
     /// At the variable of a negated literal.
     Negated(bool),
-    /// Behind a literal.
+    /// After a literal.
     AfterOperand(bool),
     /// At the argument of `putchar`.
     Byte(bool),
-    /// Behind the program.
+    /// After the program.
     End,
 }
 
@@ -49,23 +50,23 @@ enum Action {
     Nothing,
     /// The variable of the option of this number is declared.
     Declare(usize),
-    /// This byte is put.
-    Put(u8),
+    /// This byte is written.
+    Write(u8),
 }
 
-/// The reading of a token: what is due behind it, and what is to be done.
+/// The reading of a token: what is due after it, and what is to be done.
 #[derive(Clone, Copy)]
-struct Step {
+struct TokenReading {
     due: Due,
     action: Action,
 }
 
-impl Step {
+impl TokenReading {
     /// The reading of a token at which nothing is to be done.
-    fn to(words: &'static [&'static str], state: State) -> Step
+    fn to(words: &'static [&'static str], state: State) -> TokenReading
         ensures { reading_of result ≡ reading (map (λ word. word.now) words.now) state Nothing }
     {
-        Step {
+        TokenReading {
             due: Due { words, state },
             action: Action::Nothing,
         }
@@ -95,74 +96,86 @@ fn known_value(model: &Model, known: &[Option<bool>], token: &[u8]) -> Option<bo
 }
 
 /// Reads the first token of a declaration, or that of the declaration of `putchar`.
-fn next_in_declarations(token: &[u8]) -> Option<Step>
+fn next_in_declarations(token: &[u8]) -> Option<TokenReading>
     ensures { option_map reading_of result ≡ next_in_declarations token.now }
 {
     match token {
-        b"extern" => Some(Step::to(&["int"], State::Variable)),
-        b"int" => Some(Step::to(&REST_OF_HEAD, State::Body)),
+        b"extern" => Some(TokenReading::to(&["int"], State::Variable)),
+        b"int" => Some(TokenReading::to(&REST_OF_HEAD, State::Body)),
         _ => None,
     }
 }
 
-/// Reads the first token of a statement, or the brace behind the last.
-fn next_in_body(token: &[u8]) -> Option<Step>
+/// Reads the first token of a statement, or the brace after the last.
+fn next_in_body(token: &[u8]) -> Option<TokenReading>
     ensures { option_map reading_of result ≡ next_in_body token.now }
 {
     match token {
-        b"putchar" => Some(Step::to(&["("], State::Byte(true))),
-        b"if" => Some(Step::to(&["("], State::Operand(true))),
-        // The gap behind the last token ends in an empty part of the text.
-        b"}" => Some(Step::to(&[""], State::End)),
+        b"putchar" => Some(TokenReading::to(&["("], State::Byte(true))),
+        b"if" => Some(TokenReading::to(&["("], State::Operand(true))),
+        // The gap after the last token ends in an empty part of the text.
+        b"}" => Some(TokenReading::to(&[""], State::End)),
         _ => None,
     }
 }
 
-/// Reads what stands behind a literal.
-fn next_behind_operand(holds: bool, token: &[u8]) -> Option<Step>
-    ensures { option_map reading_of result ≡ next_behind_operand holds token.now }
+/// Reads what stands after a literal.
+fn next_after_operand(holds: bool, token: &[u8]) -> Option<TokenReading>
+    ensures { option_map reading_of result ≡ next_after_operand holds token.now }
 {
     match token {
-        b"&&" => Some(Step::to(&[], State::Operand(holds))),
-        b")" => Some(Step::to(&["putchar", "("], State::Byte(holds))),
+        b"&&" => Some(TokenReading::to(&[], State::Operand(holds))),
+        b")" => Some(TokenReading::to(&["putchar", "("], State::Byte(holds))),
         _ => None,
     }
 }
 
 /// Reads the `!` or the variable at which a literal begins.
-fn next_at_operand(holds: bool, model: &Model, known: &[Option<bool>], token: &[u8]) -> Option<Step>
+fn next_at_operand(
+    holds: bool,
+    model: &Model,
+    known: &[Option<bool>],
+    token: &[u8],
+) -> Option<TokenReading>
     requires { length known.now ≡ length model.now.names }
-    ensures { option_map reading_of result ≡ next_at_operand holds (known_value model.now.names known.now token.now) token.now }
+    ensures { option_map reading_of result
+        ≡ next_at_operand holds (known_value model.now.names known.now token.now) token.now }
 {
     if token == b"!".as_slice() {
-        Some(Step::to(&[], State::Negated(holds)))
+        Some(TokenReading::to(&[], State::Negated(holds)))
     } else {
         let value = known_value(model, known, token)?;
-        Some(Step::to(&[], State::AfterOperand(holds && value)))
+        Some(TokenReading::to(&[], State::AfterOperand(holds && value)))
     }
 }
 
 /// Reads the variable of a negated literal.
-fn next_at_negated(holds: bool, model: &Model, known: &[Option<bool>], token: &[u8]) -> Option<Step>
+fn next_at_negated(
+    holds: bool,
+    model: &Model,
+    known: &[Option<bool>],
+    token: &[u8],
+) -> Option<TokenReading>
     requires { length known.now ≡ length model.now.names }
-    ensures { option_map reading_of result ≡ behind_negated holds (known_value model.now.names known.now token.now) }
+    ensures { option_map reading_of result
+        ≡ after_negated holds (known_value model.now.names known.now token.now) }
 {
     let value = known_value(model, known, token)?;
-    Some(Step::to(&[], State::AfterOperand(holds && !value)))
+    Some(TokenReading::to(&[], State::AfterOperand(holds && !value)))
 }
 
-/// Reads the argument of `putchar`, which is put where the test holds.
-fn next_at_byte(holds: bool, token: &[u8]) -> Option<Step>
-    ensures { option_map reading_of result ≡ behind_byte holds (byte_of token.now) }
+/// Reads the argument of `putchar`, which is written where the test holds.
+fn next_at_byte(holds: bool, token: &[u8]) -> Option<TokenReading>
+    ensures { option_map reading_of result ≡ after_argument holds (byte_of token.now) }
 {
     let byte = read_digits(token)?;
-    Some(Step {
+    Some(TokenReading {
         due: Due {
             words: &[")", ";"],
             state: State::Body,
         },
         action: if holds {
-            Action::Put(byte)
+            Action::Write(byte)
         } else {
             Action::Nothing
         },
@@ -170,11 +183,11 @@ fn next_at_byte(holds: bool, token: &[u8]) -> Option<Step>
 }
 
 /// Reads the name of a variable that is declared.
-fn next_at_variable(model: &Model, token: &[u8]) -> Option<Step>
+fn next_at_variable(model: &Model, token: &[u8]) -> Option<TokenReading>
     ensures { option_map reading_of result ≡ declared (option_number model.now.names token.now) }
 {
     let option = option_number(model, token)?;
-    Some(Step {
+    Some(TokenReading {
         due: Due {
             words: &[";"],
             state: State::Declarations,
@@ -185,7 +198,7 @@ fn next_at_variable(model: &Model, token: &[u8]) -> Option<Step>
 
 impl State {
     /// Reads the token at which this state is.
-    fn next(self, model: &Model, known: &[Option<bool>], token: &[u8]) -> Option<Step>
+    fn next(self, model: &Model, known: &[Option<bool>], token: &[u8]) -> Option<TokenReading>
         requires { length known.now ≡ length model.now.names }
         ensures { option_map reading_of result ≡ next_in model.now.names known.now self token.now }
     {
@@ -195,7 +208,7 @@ impl State {
             State::Body => next_in_body(token),
             State::Operand(holds) => next_at_operand(holds, model, known, token),
             State::Negated(holds) => next_at_negated(holds, model, known, token),
-            State::AfterOperand(holds) => next_behind_operand(holds, token),
+            State::AfterOperand(holds) => next_after_operand(holds, token),
             State::Byte(holds) => next_at_byte(holds, token),
             State::End => None,
         }
@@ -204,15 +217,16 @@ impl State {
 
 impl Due {
     /// Reads the token at which this is due.
-    fn next(self, model: &Model, known: &[Option<bool>], token: &[u8]) -> Option<Step>
+    fn next(self, model: &Model, known: &[Option<bool>], token: &[u8]) -> Option<TokenReading>
         requires { length known.now ≡ length model.now.names }
-        ensures { option_map reading_of result ≡ next model.now.names known.now (wanted_of self) token.now }
+        ensures { option_map reading_of result
+            ≡ next model.now.names known.now (wanted_of self) token.now }
     {
         match self.words {
             [] => self.state.next(model, known, token),
             [word, words @ ..] => {
                 if token == word.as_bytes() {
-                    Some(Step::to(words, self.state))
+                    Some(TokenReading::to(words, self.state))
                 } else {
                     None
                 }
@@ -246,12 +260,12 @@ fn perform(
             known[option] = config.on.get(option).copied();
             Ok(())
         }
-        Action::Put(byte) => output.push(byte).map_err(|_| Memory),
+        Action::Write(byte) => output.push(byte).map_err(|_| Memory),
     }
 }
 
-/// The output of the small program that `text` is, or `None` where it is none.
-pub fn read(
+/// The output of the small program that `text` is, or `None` where it isn't one.
+pub(super) fn read(
     alloc: Global,
     text: &[u8],
     model: &Model,

@@ -3,4 +3,5 @@ use Rattle.std.specs.String.{string_bytes}
 use Rattle.hv_base.proofs.bundle.copied.Given as goal
 
 abbrev pub invariant-loop-name : goal.invariant-loop-name
-invariant-loop-name l = map string_bytes l.copies.items ≡ map string_bytes (take l.name-index l.names)
+invariant-loop-name l =
+    map string_bytes l.copies.items ≡ map string_bytes (take l.name-index l.names)

@@ -19,22 +19,28 @@ use Rattle.hv_base.specs.declared.list.List.TheView.{view, invariant}
 use Rattle.hv_base.specs.contracts.list.List as C
 use Rattle.hv_base.specs.contracts.list.List.TheInside as I
 
+-- the container over another container
 abbrev pub the_former : Former {0} → Former {0}
 the_former g = list g
 
+-- its items weigh less than it
 abbrev pub the_weighed : {g : Former {0}} → Weighed g → Weighed (the_former g)
 the_weighed w = w_list w
 
+-- the list without items
 pub the_empty : List ⊥
 the_empty = []
 
+-- the items of a list, which are the list itself
 abbrev pub the_items : (X : Type 0) → List X → List X
 the_items X d = d
 
+-- the items are what the container lists
 pub the_items_listed : (X : Type 0) (d : List X)
     → listed _ (children (the_former this) X d) ≡ the_items X d
 the_items_listed X d = list-listed X d
 
+-- the container as the fields of the struct are one
 abbrev fields : Former {0}
 fields =
     via (vec.the_former this Global) Inside (λ X a. a.items) (λ X v. record { items = v })
@@ -43,7 +49,8 @@ fields =
 module _ (R S : RattleType) (h : R.Denot → S.Denot) where
   pub the_places : Alike R S h
       → Alike (C.the_row R) (C.the_row S) ((the_former this).map R.Denot S.Denot h)
-  the_places a = view_places fields (list this) view (λ X Y k u. refl) (λ X u. refl) R.Denot S.Denot h
+  the_places a = view_places fields (list this) view (λ X Y k u. refl) (λ X u. refl)
+      R.Denot S.Denot h
       (C.the_row R).coded (C.the_row S).coded
       (invariant R.Denot) (invariant S.Denot) (λ u p q. refl) (λ u p q. refl)
       (λ u e. tt) (λ u e. tt)

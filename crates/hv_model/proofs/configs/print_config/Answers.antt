@@ -8,16 +8,21 @@ loop-i-preserved c =
     elim c.if-is_on.branch [
       | then-is_on+in_ok-add_name w ↦
           rw (w.text-is, w.is_first-is)
-          (printed_on c.args.model.now.names c.args.config.now.on c.loop-i.i w.as_bytes.result.now c.loop-i.text w.add_name.new.text c.loop-i.is_first c.loop-i.invariant
+          (printed_on c.args.model.now.names c.args.config.now.on c.loop-i.i w.as_bytes.result.now
+          c.loop-i.text w.add_name.new.text c.loop-i.is_first c.loop-i.invariant
           (omega (arith, c.options-i-end.ensures.count, c.loop-i-test.true)) c.requires
-          (c.is_on.ensures ∙ ap Some w.if-is_on.true) (w.name.ensures ∙ ap Some (sym w.as_bytes.ensures.value)) w.in_ok-add_name.ensures)
+          (c.is_on.ensures ∙ ap Some w.if-is_on.true)
+          (w.name.ensures ∙ ap Some (sym w.as_bytes.ensures.value)) w.in_ok-add_name.ensures)
       | else-is_on w ↦
           rw (w.text-is, w.is_first-is)
-          (printed_off c.args.model.now.names c.args.config.now.on c.loop-i.i c.loop-i.text c.loop-i.is_first c.loop-i.invariant
-          (omega (arith, c.options-i-end.ensures.count, c.loop-i-test.true)) c.requires (c.is_on.ensures ∙ ap Some w.if-is_on.false))
+          (printed_off c.args.model.now.names c.args.config.now.on c.loop-i.i c.loop-i.text
+          c.loop-i.is_first c.loop-i.invariant
+          (omega (arith, c.options-i-end.ensures.count, c.loop-i-test.true)) c.requires
+          (c.is_on.ensures ∙ ap Some w.if-is_on.false))
     ]
 
 pub returns-clause-read_back : goal.returns-clause-read_back
 returns-clause-read_back c =
-    read_back_at c.args.model.now.names c.args.config.now.on c.loop-i.i c.loop-i.text c.loop-i.invariant.0 (omega (arith, c.options-i-end.ensures.count, c.loop-i-test.false))
+    read_back_at c.args.model.now.names c.args.config.now.on c.loop-i.i c.loop-i.text
+    c.loop-i.invariant.0 (omega (arith, c.options-i-end.ensures.count, c.loop-i-test.false))
     c.options-i-end.ensures.names c.options-i-end.ensures.distinct c.requires

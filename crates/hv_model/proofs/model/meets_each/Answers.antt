@@ -6,5 +6,7 @@ use Rattle.hv_model.proofs.model.meets_each.Goals as goal
 
 pub returns-then-not-meets : goal.returns-then-not-meets
 returns-then-not-meets c =
-    meets_all-false c.args.values.now c.args.rules.now c.loop-rule.rule-index c.rule-item.result c.loop-rule-test.true
-    (sym (ap (λ s. meets c.args.values.now (rule_of s)) c.rule-item.is) ∙ (sym c.meets.ensures ∙ c.if-not-meets.true))
+    meets_all-false c.args.values.now c.args.rules.now c.loop-rule.rule-index c.rule-item.result
+    c.loop-rule-test.true
+    (sym (ap (λ s. meets c.args.values.now (rule_of s)) c.rule-item.is)
+    ∙ (sym c.meets.ensures ∙ c.if-not-meets.true))

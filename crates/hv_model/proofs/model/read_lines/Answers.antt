@@ -20,13 +20,18 @@ refused_line bytes rest more line cut m n refusal f e g h =
 pub returns-in_err-add_line-clause-refused : goal.returns-in_err-add_line-clause-refused
 returns-in_err-add_line-clause-refused c =
     let p = err_from_is_err_and c.from_residual.result c.from_residual.ensures.1 in
-    rw (p.1, p.2) (refused_line c.args.bytes.now c.loop-line.rest.now c.in-Some.more.now c.in-Some.line.now c.strip_return.result.now c.loop-line.model c.loop-line.number c.in_err-add_line.field-0.0
-    c.loop-line.invariant.0 c.in-Some.ensures.some c.strip_return.ensures (c.in_err-add_line.ensures.refused (lines_of c.in-Some.more.now)))
+    rw (p.1, p.2) (refused_line c.args.bytes.now c.loop-line.rest.now c.in-Some.more.now
+    c.in-Some.line.now c.strip_return.result.now c.loop-line.model c.loop-line.number
+    c.in_err-add_line.field-0.0
+    c.loop-line.invariant.0 c.in-Some.ensures.some c.strip_return.ensures
+    (c.in_err-add_line.ensures.refused (lines_of c.in-Some.more.now)))
 
-ended : (m : Features) (n : ℕ) (rest : List ℕ) (o : Reading) → rest ≡ [] → Reads m n [] o → Reads m n (lines_of rest) o
+ended : (m : Features) (n : ℕ) (rest : List ℕ) (o : Reading) → rest ≡ [] → Reads m n [] o
+    → Reads m n (lines_of rest) o
 ended m n rest o e h = rw e h
 
 pub returns-clause-read : goal.returns-clause-read
 returns-clause-read c = λ o h.
     c.loop-line.invariant.0 o
-    (ended c.loop-line.model c.loop-line.number c.loop-line.rest.now o c.in_default.ensures.none (h c.loop-line.number))
+    (ended c.loop-line.model c.loop-line.number c.loop-line.rest.now o c.in_default.ensures.none
+    (h c.loop-line.number))

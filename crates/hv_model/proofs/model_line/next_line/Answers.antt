@@ -10,8 +10,12 @@ some xs e f = grind (arith, nat_tests)
 
 pub returns-then-end-bytes-clause-some : goal.returns-then-end-bytes-clause-some
 returns-then-end-bytes-clause-some c =
-    rw (take-rest, c.line_len-end.ensures.value) (counted_lines-front c.args.bytes.now (rw (c.line_len-end.ensures.value) at c.if-end-bytes.true))
+    rw (take-rest, c.line_len-end.ensures.value)
+    (counted_lines-front c.args.bytes.now
+    (rw (c.line_len-end.ensures.value) at c.if-end-bytes.true))
 
 pub returns-else-end-bytes-clause-some : goal.returns-else-end-bytes-clause-some
 returns-else-end-bytes-clause-some c =
-    rw (take-rest, drop-past _ c.args.bytes.now c.if-end-bytes.false) (counted_lines-last c.args.bytes.now (some _ c.is_empty.ensures c.if-is_empty.false) (rw (c.line_len-end.ensures.value) at c.if-end-bytes.false))
+    rw (take-rest, drop-past _ c.args.bytes.now c.if-end-bytes.false)
+    (counted_lines-last c.args.bytes.now (some _ c.is_empty.ensures c.if-is_empty.false)
+    (rw (c.line_len-end.ensures.value) at c.if-end-bytes.false))

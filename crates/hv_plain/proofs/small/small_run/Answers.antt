@@ -4,7 +4,11 @@ use Rattle.hv_plain.proofs.small.small_run.Goals as goal
 
 pub returns : goal.returns
 returns c = record {
-  runs = IfOk-weaker _ _ _ (answer_runs c.args.model.now.names c.args.config.now.on c.args.text.now c.requires) c.read.ensures;
-  only = IfOk-weaker _ _ _ (answer_only c.args.model.now.names c.args.config.now.on c.args.text.now c.requires) c.read.ensures;
-  refused = IfOk-weaker _ _ _ (answer_refused c.args.model.now.names c.args.config.now.on c.args.text.now c.requires) c.read.ensures;
+  runs = IfOk-weaker _ _ _ (answer_runs c.args.model.now.names c.args.config.now.on c.args.text.now
+      c.requires) c.read.ensures;
+  only = IfOk-weaker _ _ _ (answer_only c.args.model.now.names c.args.config.now.on c.args.text.now
+      c.requires) c.read.ensures;
+  refused =
+      IfOk-weaker _ _ _ (answer_refused c.args.model.now.names c.args.config.now.on c.args.text.now
+      c.requires) c.read.ensures;
 }

@@ -6,12 +6,16 @@ use Rattle.hv_model.proofs.model.Model.add_rule.Goals as goal
 pub returns-in-Ok-Some-clause-added : goal.returns-in-Ok-Some-clause-added
 returns-in-Ok-Some-clause-added c =
     let said = rw c.in-Ok-Some.field-0-is at c.in-Ok-Some.ensures.rule in
-    OnOk-map c.add_code.result _ _ (λ added line more o e h. added line (tokens c.args.text.now) more o e (rw (← c.self.view_is) said) h) c.add_code.ensures.added
+    OnOk-map c.add_code.result _ _
+    (λ added line more o e h. added line (tokens c.args.text.now) more o e
+    (rw (← c.self.view_is) said) h) c.add_code.ensures.added
 
 pub returns-in-Ok-Some-clause-refused : goal.returns-in-Ok-Some-clause-refused
 returns-in-Ok-Some-clause-refused c =
     let said = rw c.in-Ok-Some.field-0-is at c.in-Ok-Some.ensures.rule in
-    IfErr-map c.add_code.result _ _ (λ refusal refused line more e. refused line (tokens c.args.text.now) more e (rw (← c.self.view_is) said)) c.add_code.ensures.refused
+    IfErr-map c.add_code.result _ _
+    (λ refusal refused line more e. refused line (tokens c.args.text.now) more e
+    (rw (← c.self.view_is) said)) c.add_code.ensures.refused
 
 pub returns-in-Ok-None-clause-refused : goal.returns-in-Ok-None-clause-refused
 returns-in-Ok-None-clause-refused c =

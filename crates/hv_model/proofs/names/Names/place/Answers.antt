@@ -8,4 +8,5 @@ pub returns : goal.returns
 returns c =
     c.unwrap_or-place.ensures
     ∙ (ap (λ o. unwrap_or o c.len.result) c.position.ensures
-    ∙ (ap (unwrap_or (position (bytes_eq c.args.name.now) c.args.self.now)) c.len.ensures.count ∙ unwrap_or-position (bytes_eq c.args.name.now) c.args.self.now))
+    ∙ (ap (unwrap_or (position (bytes_eq c.args.name.now) c.args.self.now)) c.len.ensures.count
+    ∙ unwrap_or-position (bytes_eq c.args.name.now) c.args.self.now))

@@ -12,23 +12,30 @@ use Rattle.hv_model.proofs.NameLemmas.{IsUtf8-option_name}
 use Rattle.hv_model.proofs.names.Names.push.Goals as goal
 
 pub unreachable-requires : goal.unreachable-requires
-unreachable-requires c = c.in_default.ensures.cases.0 (IsUtf8-option_name c.args.name.now c.requires.named)
+unreachable-requires c =
+    c.in_default.ensures.cases.0 (IsUtf8-option_name c.args.name.now c.requires.named)
 
-kept : (ok : Bool) (items now : List (String Global)) (option : String Global) → now ≡ cond ok (items ++ option ∷ []) items
-    → AllOptionNames (map string_bytes items) → are_distinct (map string_bytes items) ≡ true → length items < 256 → IsTrue (is_option_name (string_bytes option))
+kept : (ok : Bool) (items now : List (String Global)) (option : String Global)
+    → now ≡ cond ok (items ++ option ∷ []) items
+    → AllOptionNames (map string_bytes items) → are_distinct (map string_bytes items) ≡ true
+    → length items < 256 → IsTrue (is_option_name (string_bytes option))
     → list_any (bytes_eq (string_bytes option)) (map string_bytes items) ≡ false
-    → AllOptionNames (map string_bytes now) × (length now ≤ 256) × IsTrue (are_distinct (map string_bytes now))
+    → AllOptionNames (map string_bytes now) × (length now ≤ 256)
+    × IsTrue (are_distinct (map string_bytes now))
 kept true items now option e all distinct room named fresh =
     rw e (
-      rw map-append (All-push (λ name. IsTrue (is_option_name name)) (map string_bytes items) (string_bytes option) all named),
+      rw map-append (All-push (λ name. IsTrue (is_option_name name)) (map string_bytes items)
+          (string_bytes option) all named),
       omega (arith, length-append items (option ∷ [])),
-      rw map-append (are_distinct-push (map string_bytes items) (string_bytes option) distinct fresh),
+      rw map-append (are_distinct-push (map string_bytes items) (string_bytes option) distinct
+          fresh),
     )
 kept false items now option e all distinct room named fresh = rw e (all, omega arith, distinct)
 
 pub invariant_of-self : goal.invariant_of-self
 invariant_of-self c =
-    kept _ c.self.inside.names.items c.push.new.self.items c.in-Ok-from_str.option c.push.ensures.items c.self.invariant.0 c.self.invariant.2
+    kept _ c.self.inside.names.items c.push.new.self.items c.in-Ok-from_str.option
+    c.push.ensures.items c.self.invariant.0 c.self.invariant.2
     (omega (arith, length-map string_bytes c.self.inside.names.items, ap length c.self.view_is))
     (rw (c.in-Ok-from_str.ensures.ok, c.in-Ok.ensures.cases.0) c.requires.named)
     (rw (c.in-Ok-from_str.ensures.ok, c.in-Ok.ensures.cases.0, c.self.view_is) c.requires.fresh)

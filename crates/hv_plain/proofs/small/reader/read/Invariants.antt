@@ -8,5 +8,7 @@ use Rattle.hv_plain.proofs.small.reader.read.Given as goal
 abbrev pub invariant-loop-token : goal.invariant-loop-token
 invariant-loop-token l = record {
   each_option : length l.known.items ≡ length l.model.names;
-  same_answer : run_from l.model.names l.config.on (wanted_of l.due) l.known.items l.output (drop (length l.yielded) (slice_split is_gap l.text)) ≡ answer l.model.names l.config.on l.text;
+  same_answer : run_from l.model.names l.config.on (wanted_of l.due) l.known.items l.output
+      (drop (length l.yielded) (slice_split is_gap l.text))
+      ≡ answer l.model.names l.config.on l.text;
 }

@@ -1,9 +1,0 @@
-use Rattle.std.proofs.Common.{◌≡◌, length}
-use Rattle.hv_ifexpr.specs.Machine.{reduce}
-use Rattle.hv_ifexpr.proofs.stack.Stack.reduce.Given as goal
-
-abbrev pub invariant-loop-frame : goal.invariant-loop-frame
-invariant-loop-frame l = reduce l.level l.self l.operand ≡ reduce l.level l.initial.self l.fn.operand
-
-abbrev pub decreases-loop-frame : goal.decreases-loop-frame
-decreases-loop-frame l = length l.self
