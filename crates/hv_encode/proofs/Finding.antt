@@ -21,13 +21,15 @@ pub record IsLater (whole later : Reads) : Type 0 where
 Rose-earlier : (a b c d : ℕ) → a ≤ b → c ≡ d → Rose b c → Rose a d
 Rose-earlier a b c d h e rose = omega arith
 
-pub IsFile-whole : (whole later : Reads) → IsLater whole later → (name bytes : List ℕ) → IsFile later name bytes → IsFile whole name bytes
+pub IsFile-whole : (whole later : Reads) → IsLater whole later → (name bytes : List ℕ)
+    → IsFile later name bytes → IsFile whole name bytes
 IsFile-whole whole later l name bytes file = record {
   held = λ told. sym (l.keeps.held name) ∙ file.held (l.keeps.told ∙ told);
   small = file.small;
 }
 
-IsInput-whole : (whole later : Reads) → IsLater whole later → (command : Command) (model : Features) (source : List ℕ)
+IsInput-whole : (whole later : Reads) → IsLater whole later
+    → (command : Command) (model : Features) (source : List ℕ)
     → IsInput later command model source → IsInput whole command model source
 IsInput-whole whole later l command model source input = record {
   bytes = input.bytes;
@@ -36,11 +38,16 @@ IsInput-whole whole later l command model source input = record {
   main = IsFile-whole whole later l command.main source input.main;
 }
 
-pub IsReadBefore-whole : (whole later : Reads) → IsLater whole later → (command : Command) (role : Role) → IsReadBefore later command role → IsReadBefore whole command role
+pub IsReadBefore-whole : (whole later : Reads) → IsLater whole later
+    → (command : Command) (role : Role) → IsReadBefore later command role
+    → IsReadBefore whole command role
 IsReadBefore-whole whole later l command Model read = tt
-IsReadBefore-whole whole later l command Main read = (read.0, IsFile-whole whole later l command.model read.0 read.1)
+IsReadBefore-whole whole later l command Main read =
+    (read.0, IsFile-whole whole later l command.model read.0 read.1)
 
-pub IsDueTo-whole : (whole later : Reads) → IsLater whole later → (command : Command) (answer : Answer) → IsDueTo later command answer → IsDueTo whole command answer
+pub IsDueTo-whole : (whole later : Reads) → IsLater whole later
+    → (command : Command) (answer : Answer) → IsDueTo later command answer
+    → IsDueTo whole command answer
 IsDueTo-whole whole later l command (Encoded text) due = record {
   model = due.model;
   source = due.source;
@@ -80,7 +87,8 @@ IsDueTo-whole whole later l command (TooBig name size total) due = record {
   read_before = IsReadBefore-whole whole later l command due.role due.read_before;
   total_is = due.total_is;
   beyond = due.beyond;
-  held = λ told. let found = due.held (l.keeps.told ∙ told) in (found.0, sym (l.keeps.held name) ∙ found.1, found.2);
+  held = λ told. let found = due.held (l.keeps.told ∙ told) in
+      (found.0, sym (l.keeps.held name) ∙ found.1, found.2);
 }
 IsDueTo-whole whole later l command (BadModel found) due = record {
   bytes = due.bytes;
@@ -90,7 +98,8 @@ IsDueTo-whole whole later l command (BadModel found) due = record {
   refused = due.refused;
 }
 
-pub IsDueTo-made : (reads : Reads) (command : Command) (model_file source : List ℕ) (answer : Answer) → IsFile reads command.model model_file → IsFile reads command.main source
+pub IsDueTo-made : (reads : Reads) (command : Command) (model_file source : List ℕ)
+    (answer : Answer) → IsFile reads command.model model_file → IsFile reads command.main source
     → IsMadeOf model_file source command.main answer → IsDueTo reads command answer
 IsDueTo-made reads command model_file source (Encoded text) is_model main made = record {
   model = made.0;
@@ -113,18 +122,30 @@ IsDueTo-made reads command model_file source (LeftOut config file) is_model main
 IsDueTo-made reads command model_file source BadWords is_model main made = made
 IsDueTo-made reads command model_file source (CannotRead name) is_model main made = absurd made
 IsDueTo-made reads command model_file source (NoFile name) is_model main made = absurd made
-IsDueTo-made reads command model_file source (TooBig name size total) is_model main made = absurd made
-IsDueTo-made reads command model_file source (BadModel found) is_model main made = record { bytes = model_file; model_file = is_model; source = source; main = main; refused = made }
+IsDueTo-made reads command model_file source (TooBig name size total) is_model main made =
+    absurd made
+IsDueTo-made reads command model_file source (BadModel found) is_model main made =
+    record {
+      bytes = model_file;
+      model_file = is_model;
+      source = source;
+      main = main;
+      refused =
+          made;
+    }
 
 -- a file that was read earlier is one before a later read
-pub IsFile-later : (old mid new : FileState) → Keeps old mid → (name bytes : List ℕ) → IsFile (reads old mid) name bytes → IsFile (reads mid new) name bytes
+pub IsFile-later : (old mid new : FileState) → Keeps old mid → (name bytes : List ℕ)
+    → IsFile (reads old mid) name bytes → IsFile (reads mid new) name bytes
 IsFile-later old mid new keeps name bytes file = record {
   held = λ told. keeps.held name ∙ file.held (sym keeps.told ∙ told);
   small = file.small;
 }
 
 -- an answer for a main file that isn't a small source is one for the bytes of the files
-pub left_out_made : {E : Type 0} (result : Result Answer E) (model_file source main : List ℕ) (m : Features) → IsModelOf model_file m → ((body : List SourceLine) → IsSmallSource m.names source body → ⊥)
+pub left_out_made : {E : Type 0} (result : Result Answer E) (model_file source main : List ℕ)
+    (m : Features) → IsModelOf model_file m
+    → ((body : List SourceLine) → IsSmallSource m.names source body → ⊥)
     → IfOk result (IsLeftOutOf m main) → IfOk result (IsMadeOf model_file source main)
 left_out_made (Err e) model_file source main m accepted refused out = tt
 left_out_made (Ok answer) model_file source main m accepted refused out = at answer out

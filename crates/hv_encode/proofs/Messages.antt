@@ -9,7 +9,13 @@ use Rattle.hv_encode.specs.declared.cli.answer.Answer.TheVariants.{LeftOut}
 five : (a b c d e : List ℕ) → a ++ (b ++ (c ++ (d ++ e))) ≡ a ++ b ++ c ++ d ++ e
 five a b c d e = simp append_assoc
 
-pub left_out_joined : {E : Type 0} (result : Result (List ℕ) E) (a b c d e : Bor (List ℕ)) (config file : List ℕ) → a.now ≡ codes "hercules: fails config=" → b.now ≡ config → c.now ≡ codes " file=" → d.now ≡ file
-    → e.now ≡ codes " line=1 offset=0 via=- why=14 LeftOut\n" → IfOk result (λ text. text ≡ flat_map (λ piece. piece.now) (a ∷ b ∷ c ∷ d ∷ e ∷ [])) → IfOk result (λ text. text ≡ message_of (LeftOut config file))
+pub left_out_joined : {E : Type 0} (result : Result (List ℕ) E) (a b c d e : Bor (List ℕ))
+    (config file : List ℕ) → a.now ≡ codes "hercules: fails config=" → b.now ≡ config
+    → c.now ≡ codes " file=" → d.now ≡ file
+    → e.now ≡ codes " line=1 offset=0 via=- why=14 LeftOut\n"
+    → IfOk result (λ text. text ≡ flat_map (λ piece. piece.now) (a ∷ b ∷ c ∷ d ∷ e ∷ []))
+    → IfOk result (λ text. text ≡ message_of (LeftOut config file))
 left_out_joined (Err x) a b c d e config file p q r s t h = tt
-left_out_joined (Ok text) a b c d e config file p q r s t h = h ∙ rw (p, q, r, s, t) (five (codes "hercules: fails config=") config (codes " file=") file (codes " line=1 offset=0 via=- why=14 LeftOut\n"))
+left_out_joined (Ok text) a b c d e config file p q r s t h = h
+    ∙ rw (p, q, r, s, t) (five (codes "hercules: fails config=") config (codes " file=") file
+    (codes " line=1 offset=0 via=- why=14 LeftOut\n"))

@@ -19,7 +19,8 @@ not_three false b e = cc
 pub two : (p q b c : ℕ) → ((p == b) && ((q == c) && true)) ≡ true → (b ≡ p) × (c ≡ q)
 two p q b c e = (grind (arith, nat_tests), grind (arith, nat_tests))
 
-pub three : (p q r b c d : ℕ) → ((p == b) && ((q == c) && ((r == d) && true))) ≡ true → (b ≡ p) × (c ≡ q) × (d ≡ r)
+pub three : (p q r b c d : ℕ) → ((p == b) && ((q == c) && ((r == d) && true))) ≡ true → (b ≡ p)
+    × (c ≡ q) × (d ≡ r)
 three p q r b c d e = (grind (arith, nat_tests), grind (arith, nat_tests), grind (arith, nat_tests))
 
 pub or-left : (a b : Bool) → a ≡ true → (a || b) ≡ true

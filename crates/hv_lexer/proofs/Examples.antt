@@ -12,12 +12,20 @@ piece kind spelling newline = record { kind = kind; spelling = spelling; newline
 apart : List Piece
 unfolding piece
 apart =
-    piece Identifier (codes "L") false ∷ piece CharConstant (codes "'a'") false ∷ piece Number (codes "1e") false ∷ piece Punctuator (codes "+") false
-    ∷ piece Punctuator (codes "/") false ∷ piece Punctuator (codes "/") false ∷ piece StringLiteral (34 ∷ 92 ∷ 92 ∷ 34 ∷ []) true ∷ []
+    piece Identifier (codes "L") false ∷ piece CharConstant (codes "'a'") false ∷
+    piece Number (codes "1e") false ∷ piece Punctuator (codes "+") false
+    ∷ piece Punctuator (codes "/") false ∷ piece Punctuator (codes "/") false ∷
+    piece StringLiteral (34 ∷ 92 ∷ 92 ∷ 34 ∷ []) true ∷ []
 
 printable : ArePrintable apart
 unfolding apart
-printable = ((refl, refl), ((refl, refl), ((refl, refl), ((refl, refl), ((refl, refl), ((refl, refl), ((refl, refl), tt)))))))
+printable = (
+  (refl, refl),
+  (
+    (refl, refl),
+    ((refl, refl), ((refl, refl), ((refl, refl), ((refl, refl), ((refl, refl), tt))))),
+  ),
+)
 
 text : spaced apart ≡ codes "L 'a' 1e + / / " ++ 34 ∷ 92 ∷ 92 ∷ 34 ∷ 10 ∷ []
 unfolding apart

@@ -13,8 +13,10 @@ use Rattle.hv_lexer.specs.Printed.{is_spelling}
 use Rattle.hv_lexer.proofs.LongestLemmas.{longest-is}
 use Rattle.hv_lexer.proofs.Unspliced.{IsUnspliced}
 
-none_longer : (test : List ℕ → Bool) (start rest : List ℕ) → longest (λ more. test (start ++ more)) rest ≡ 0 → NoneLonger test start rest
-none_longer test start rest e = λ n some within. (longest-is (λ more. test (start ++ more)) rest).1 n (rw e some) within
+none_longer : (test : List ℕ → Bool) (start rest : List ℕ)
+    → longest (λ more. test (start ++ more)) rest ≡ 0 → NoneLonger test start rest
+none_longer test start rest e =
+    λ n some within. (longest-is (λ more. test (start ++ more)) rest).1 n (rw e some) within
 
 differ : (a b : ℕ) → (a == b) ≡ false → a ≡ b → ⊥
 differ a b t e = grind (arith, nat_tests)
@@ -23,7 +25,9 @@ differ a b t e = grind (arith, nat_tests)
 abbrev more : (start rest : List ℕ) → PpKind → ℕ
 more start rest kind = longest (λ prefix. is_spelling kind (start ++ prefix)) rest
 
-no_more : (start rest : List ℕ) → more start rest Identifier + more start rest Number + more start rest CharConstant + more start rest StringLiteral + more start rest Punctuator ≡ 0
+no_more : (start rest : List ℕ)
+    → more start rest Identifier + more start rest Number + more start rest CharConstant + more
+    start rest StringLiteral + more start rest Punctuator ≡ 0
     → (kind : PpKind) → NoneLonger (is_spelling kind) start rest
 no_more start rest e Identifier = none_longer is_identifier start rest (omega arith)
 no_more start rest e Number = none_longer is_number start rest (omega arith)
@@ -94,38 +98,59 @@ not_closed h = let e : true ≡ false = h.0 CharConstant 4 (omega arith) (omega 
 -- whole files: a token over two lines, and one that is cut apart
 abbrev plus_at : (start end : ℕ) → List ℕ → PpTok
 plus_at start end text =
-    record { kind = Punctuator; span = record { file = 0; start = start; end = end }; text = text; space = false; first = false }
+    record {
+      kind = Punctuator;
+      span = record { file = 0; start = start; end = end };
+      text = text;
+      space = false;
+      first = false;
+    }
 
 over_lines : AreLongest (plus_at 0 4 (codes "++") ∷ []) (43 ∷ 92 ∷ 10 ∷ 43 ∷ [])
 over_lines =
-    let longest_here : IsLongestToken Punctuator (codes "++") [] = (refl, no_more (codes "++") [] refl) in
+    let longest_here : IsLongestToken Punctuator (codes "++") [] =
+    (refl, no_more (codes "++") [] refl) in
     let here : IsLongestAtItsPlace (plus_at 0 4 (codes "++")) (codes "++") (0 ∷ 3 ∷ []) =
     record { before = []; rest = []; stands = refl; starts = refl; longest = longest_here } in
-    let P : PpTok → Type 0 = λ tok. IsLongestAtItsPlace tok (codes "++") (0 ∷ 3 ∷ []) in
-    (codes "++", (0 ∷ 3 ∷ [], (keep 43 refl (splice (keep 43 refl all)), All-cons P (plus_at 0 4 (codes "++")) [] here (All-nil P))))
+    let P : PpTok → Type 0 = λ tok. IsLongestAtItsPlace tok (codes "++") (0 ∷ 3 ∷ []) in (
+      codes "++",
+      (
+        0 ∷ 3 ∷
+            [],
+        (
+          keep 43 refl (splice (keep 43 refl all)),
+          All-cons P (plus_at 0 4 (codes "++")) [] here
+              (All-nil P),
+        ),
+      ),
+    )
 
 abbrev counted : ℕ → List ℕ → List ℕ
 counted offset [] = []
 counted offset (byte ∷ bytes) = offset ∷ counted (offset + 1) bytes
 
-same_text : {offset : ℕ} {bytes text places : List ℕ} → IsSpliced offset bytes text places → IsUnspliced bytes → text ≡ bytes
+same_text : {offset : ℕ} {bytes text places : List ℕ} → IsSpliced offset bytes text places
+    → IsUnspliced bytes → text ≡ bytes
 same_text all u = refl
 same_text (splice s) u = absurd (differ 2 0 refl u.0)
 same_text (long_splice s) u = absurd (differ 3 0 refl u.0)
 same_text (keep b e s) u = ap (λ t. b ∷ t) (same_text s u.1)
 
-same_places : {offset : ℕ} {bytes text places : List ℕ} → IsSpliced offset bytes text places → IsUnspliced bytes → places ≡ counted offset bytes
+same_places : {offset : ℕ} {bytes text places : List ℕ} → IsSpliced offset bytes text places
+    → IsUnspliced bytes → places ≡ counted offset bytes
 same_places all u = refl
 same_places (splice s) u = absurd (differ 2 0 refl u.0)
 same_places (long_splice s) u = absurd (differ 3 0 refl u.0)
 same_places {offset = offset} (keep b e s) u = ap (λ t. offset ∷ t) (same_places s u.1)
 
-not_there : (before rest : List ℕ) → codes "x++" ≡ before ++ (codes "+" ++ rest) → 1 ≡ slice_index (0 ∷ 1 ∷ 2 ∷ []) (length before)
+not_there : (before rest : List ℕ) → codes "x++" ≡ before ++ (codes "+" ++ rest)
+    → 1 ≡ slice_index (0 ∷ 1 ∷ 2 ∷ []) (length before)
     → IsLongestToken Punctuator (codes "+") rest → ⊥
 not_there [] rest e place h = differ 1 0 refl place
 not_there (a ∷ []) rest e place h =
     let p : codes "+" ≡ rest = cc in
-    let none : is_spelling Punctuator (codes "+" ++ take 1 rest) ≡ false = h.1 Punctuator 1 (omega arith) (omega (arith, ap length p)) in
+    let none : is_spelling Punctuator (codes "+" ++ take 1 rest) ≡ false =
+    h.1 Punctuator 1 (omega arith) (omega (arith, ap length p)) in
     let q : true ≡ false = rw (← p) at none in cc
 not_there (a ∷ b ∷ []) rest e place h = differ 1 2 refl place
 not_there (a ∷ b ∷ c ∷ before) rest e place h = differ 1 0 refl place
@@ -133,6 +158,8 @@ not_there (a ∷ b ∷ c ∷ before) rest e place h = differ 1 0 refl place
 not_cut_apart : AreLongest (plus_at 1 2 (codes "+") ∷ []) (codes "x++") → ⊥
 not_cut_apart h =
     let unspliced : IsUnspliced (codes "x++") = (refl, (refl, (refl, tt))) in
-    let first : IsLongestAtItsPlace (plus_at 1 2 (codes "+")) h.0 h.1.0 = h.1.1.1 0 (plus_at 1 2 (codes "+")) (omega arith) in
+    let first : IsLongestAtItsPlace (plus_at 1 2 (codes "+")) h.0 h.1.0 =
+    h.1.1.1 0 (plus_at 1 2 (codes "+")) (omega arith) in
     not_there first.before first.rest (sym (same_text h.1.1.0 unspliced) ∙ first.stands)
-    (first.starts ∙ ap (λ places. slice_index places (length first.before)) (same_places h.1.1.0 unspliced)) first.longest
+    (first.starts ∙ ap (λ places. slice_index places (length first.before)) (same_places h.1.1.0
+    unspliced)) first.longest

@@ -20,8 +20,10 @@ use Rattle.hv_lexer.proofs.Unspliced.{IsUnspliced, plain_unspliced, closes_unspl
 -- what a spelling with a gap after it is cut into
 pub record Parts (kind : PpKind) (text : List ℕ) (byte : ℕ) : Type 0 where
   pub some : 0 < length text
-  pub longest_here : (rest : List ℕ) → longest_token (text ++ byte ∷ rest) ≡ found kind (length text)
-  pub begins : (line : LinePrefix) (rest : List ℕ) → prefix line (text ++ byte ∷ rest) ≡ Token (token_at line (text ++ byte ∷ rest))
+  pub longest_here : (rest : List ℕ)
+      → longest_token (text ++ byte ∷ rest) ≡ found kind (length text)
+  pub begins : (line : LinePrefix) (rest : List ℕ)
+      → prefix line (text ++ byte ∷ rest) ≡ Token (token_at line (text ++ byte ∷ rest))
   pub joins : (rest : List ℕ) → IsUnspliced (byte ∷ rest) → IsUnspliced (text ++ byte ∷ rest)
 
 -- a byte that ends each spelling
@@ -32,8 +34,10 @@ pub record Gap (byte : ℕ) : Type 0 where
   pub slash : (47 == byte) ≡ false
   pub star : (42 == byte) ≡ false
 
-prefix_token : (line : LinePrefix) (x : ℕ) (xs : List ℕ) → (x == 10) ≡ false → is_line_space x ≡ false → starts_with nat_eq (x ∷ xs) (codes "//") ≡ false
-    → starts_with nat_eq (x ∷ xs) (codes "/*") ≡ false → prefix line (x ∷ xs) ≡ Token (token_at line (x ∷ xs))
+prefix_token : (line : LinePrefix) (x : ℕ) (xs : List ℕ) → (x == 10) ≡ false
+    → is_line_space x ≡ false → starts_with nat_eq (x ∷ xs) (codes "//") ≡ false
+    → starts_with nat_eq (x ∷ xs) (codes "/*") ≡ false
+    → prefix line (x ∷ xs) ≡ Token (token_at line (x ∷ xs))
 prefix_token line x xs a b c d = rw (a, b, c, d) refl
 
 plain_newline : (x : ℕ) → is_plain x ≡ true → (x == 10) ≡ false
@@ -42,20 +46,26 @@ plain_newline x e = grind (arith, nat_tests)
 plain_white : (x : ℕ) → is_plain x ≡ true → is_line_space x ≡ false
 plain_white x e = grind (arith, nat_tests)
 
-no_comment : (p : List ℕ → Bool) (text : List ℕ) (byte c : ℕ) (rest : List ℕ) → ((f : List ℕ) → p (47 ∷ c ∷ f) ≡ false) → p text ≡ true → 0 < length text
+no_comment : (p : List ℕ → Bool) (text : List ℕ) (byte c : ℕ) (rest : List ℕ)
+    → ((f : List ℕ) → p (47 ∷ c ∷ f) ≡ false) → p text ≡ true → 0 < length text
     → (c == byte) ≡ false → starts_with nat_eq (text ++ byte ∷ rest) (47 ∷ c ∷ []) ≡ false
 no_comment p [] byte c rest h e some b = absurd (omega arith)
 no_comment p (x ∷ []) byte c rest h e some b = rw b (never_both (47 == x))
 no_comment p (x ∷ y ∷ text) byte c rest h e some b =
-    refuted _ (λ g. let t = two 47 c x y g in let f : p (47 ∷ c ∷ text) ≡ true = rw (t.0, t.1) at e in let n = h text in absurd (cc))
+    refuted _ (λ g. let t = two 47 c x y g in let f : p (47 ∷ c ∷ text) ≡ true = rw (t.0, t.1) at e
+    in let n = h text in absurd (cc))
 
-begins_plain : (p : List ℕ → Bool) (text : List ℕ) (byte : ℕ) (line : LinePrefix) (rest : List ℕ) → Gap byte → IsPlain text
-    → ((f : List ℕ) → p (47 ∷ 47 ∷ f) ≡ false) → ((f : List ℕ) → p (47 ∷ 42 ∷ f) ≡ false) → p text ≡ true → 0 < length text
+begins_plain : (p : List ℕ → Bool) (text : List ℕ) (byte : ℕ) (line : LinePrefix) (rest : List ℕ)
+    → Gap byte → IsPlain text
+    → ((f : List ℕ) → p (47 ∷ 47 ∷ f) ≡ false) → ((f : List ℕ) → p (47 ∷ 42 ∷ f) ≡ false)
+    → p text ≡ true → 0 < length text
     → prefix line (text ++ byte ∷ rest) ≡ Token (token_at line (text ++ byte ∷ rest))
 begins_plain p [] byte line rest g h a b e some = absurd (omega arith)
 begins_plain p (x ∷ text) byte line rest g h a b e some =
-    prefix_token line x (text ++ byte ∷ rest) (plain_newline x (left _ _ h)) (plain_white x (left _ _ h))
-    (no_comment p (x ∷ text) byte 47 rest a e some g.slash) (no_comment p (x ∷ text) byte 42 rest b e some g.star)
+    prefix_token line x (text ++ byte ∷ rest) (plain_newline x (left _ _ h))
+    (plain_white x (left _ _ h))
+    (no_comment p (x ∷ text) byte 47 rest a e some g.slash)
+    (no_comment p (x ∷ text) byte 42 rest b e some g.star)
 
 not_empty : (p : List ℕ → Bool) (text : List ℕ) → p [] ≡ false → p text ≡ true → 0 < length text
 not_empty p [] e h = absurd (cc)
@@ -74,7 +84,8 @@ module _ (byte : ℕ) (g : Gap byte) where
   char_stops : (text : List ℕ) → IsPlain text → 0 < length text → Stops is_char_constant text byte
   char_stops text h some = stops_unquoted 39 text byte h refl some g.single
 
-  string_stops : (text : List ℕ) → IsPlain text → 0 < length text → Stops is_string_literal text byte
+  string_stops : (text : List ℕ) → IsPlain text → 0 < length text
+      → Stops is_string_literal text byte
   string_stops text h some = stops_unquoted 34 text byte h refl some g.double
 
   identifier_parts : (text : List ℕ) → is_identifier text ≡ true → Parts Identifier text byte
@@ -84,10 +95,14 @@ module _ (byte : ℕ) (g : Gap byte) where
       record {
         some = n;
         longest_here = λ rest. choose-identifier _ _ _ _ _ (length text)
-            (stopped-whole is_identifier text byte rest (identifier_stops text) e n) (stopped-most is_number text byte rest (number_stops text))
-            (stopped-most is_char_constant text byte rest (char_stops text h n)) (stopped-most is_string_literal text byte rest (string_stops text h n))
+            (stopped-whole is_identifier text byte rest (identifier_stops text) e n)
+            (stopped-most is_number text byte rest (number_stops text))
+            (stopped-most is_char_constant text byte rest (char_stops text h n))
+            (stopped-most is_string_literal text byte rest (string_stops text h n))
             (stopped-most is_punctuator text byte rest (punctuator_stops text));
-        begins = λ line rest. begins_plain is_identifier text byte line rest g h (λ f. refl) (λ f. refl) e n;
+        begins =
+            λ line rest. begins_plain is_identifier text byte line rest g h (λ f. refl) (λ f. refl)
+            e n;
         joins = λ rest u. plain_unspliced text byte rest h u;
       }
 
@@ -98,11 +113,14 @@ module _ (byte : ℕ) (g : Gap byte) where
       record {
         some = n;
         longest_here = λ rest. choose-number _ _ _ _ _ (length text)
-            (stopped-less is_identifier text byte rest (identifier_stops text) (number_alone text e) n)
+            (stopped-less is_identifier text byte rest (identifier_stops text) (number_alone text e)
+            n)
             (stopped-whole is_number text byte rest (number_stops text) e n)
-            (stopped-most is_char_constant text byte rest (char_stops text h n)) (stopped-most is_string_literal text byte rest (string_stops text h n))
+            (stopped-most is_char_constant text byte rest (char_stops text h n))
+            (stopped-most is_string_literal text byte rest (string_stops text h n))
             (stopped-most is_punctuator text byte rest (punctuator_stops text));
-        begins = λ line rest. begins_plain is_number text byte line rest g h (λ f. refl) (λ f. refl) e n;
+        begins =
+            λ line rest. begins_plain is_number text byte line rest g h (λ f. refl) (λ f. refl) e n;
         joins = λ rest u. plain_unspliced text byte rest h u;
       }
 
@@ -123,12 +141,17 @@ module _ (byte : ℕ) (g : Gap byte) where
       record {
         some = n;
         longest_here = λ rest. choose-punctuator _ _ _ _ _ (length text)
-            (stopped-less is_identifier text byte rest (identifier_stops text) (punctuator_no_identifier text e) n)
-            (stopped-less is_number text byte rest (number_stops text) (punctuator_no_number text e) n)
-            (stopped-less is_char_constant text byte rest (char_stops text h n) (unquoted 39 text h refl) n)
-            (stopped-less is_string_literal text byte rest (string_stops text h n) (unquoted 34 text h refl) n)
+            (stopped-less is_identifier text byte rest (identifier_stops text)
+            (punctuator_no_identifier text e) n)
+            (stopped-less is_number text byte rest (number_stops text) (punctuator_no_number text e)
+            n)
+            (stopped-less is_char_constant text byte rest (char_stops text h n)
+            (unquoted 39 text h refl) n)
+            (stopped-less is_string_literal text byte rest (string_stops text h n)
+            (unquoted 34 text h refl) n)
             (stopped-whole is_punctuator text byte rest (punctuator_stops text) e n);
-        begins = λ line rest. begins_plain is_punctuator text byte line rest g h no_slashes no_star e n;
+        begins =
+            λ line rest. begins_plain is_punctuator text byte line rest g h no_slashes no_star e n;
         joins = λ rest u. plain_unspliced text byte rest h u;
       }
 
@@ -172,21 +195,27 @@ module _ (byte : ℕ) (g : Gap byte) where
   string_is_no_char text (short inner e) = refl
   string_is_no_char text (wide inner e) = refl
 
-  char_begins : (text : List ℕ) (line : LinePrefix) (rest : List ℕ) → Quoted 39 text → prefix line (text ++ byte ∷ rest) ≡ Token (token_at line (text ++ byte ∷ rest))
+  char_begins : (text : List ℕ) (line : LinePrefix) (rest : List ℕ) → Quoted 39 text
+      → prefix line (text ++ byte ∷ rest) ≡ Token (token_at line (text ++ byte ∷ rest))
   char_begins text line rest (short inner e) = refl
   char_begins text line rest (wide inner e) = refl
 
-  string_begins : (text : List ℕ) (line : LinePrefix) (rest : List ℕ) → Quoted 34 text → prefix line (text ++ byte ∷ rest) ≡ Token (token_at line (text ++ byte ∷ rest))
+  string_begins : (text : List ℕ) (line : LinePrefix) (rest : List ℕ) → Quoted 34 text
+      → prefix line (text ++ byte ∷ rest) ≡ Token (token_at line (text ++ byte ∷ rest))
   string_begins text line rest (short inner e) = refl
   string_begins text line rest (wide inner e) = refl
 
-  char_joins : (text rest : List ℕ) → Quoted 39 text → IsUnspliced (byte ∷ rest) → IsUnspliced (text ++ byte ∷ rest)
+  char_joins : (text rest : List ℕ) → Quoted 39 text → IsUnspliced (byte ∷ rest)
+      → IsUnspliced (text ++ byte ∷ rest)
   char_joins text rest (short inner e) u = (refl, closes_unspliced 39 inner byte rest refl e u)
-  char_joins text rest (wide inner e) u = (refl, (refl, closes_unspliced 39 inner byte rest refl e u))
+  char_joins text rest (wide inner e) u =
+      (refl, (refl, closes_unspliced 39 inner byte rest refl e u))
 
-  string_joins : (text rest : List ℕ) → Quoted 34 text → IsUnspliced (byte ∷ rest) → IsUnspliced (text ++ byte ∷ rest)
+  string_joins : (text rest : List ℕ) → Quoted 34 text → IsUnspliced (byte ∷ rest)
+      → IsUnspliced (text ++ byte ∷ rest)
   string_joins text rest (short inner e) u = (refl, closes_unspliced 34 inner byte rest refl e u)
-  string_joins text rest (wide inner e) u = (refl, (refl, closes_unspliced 34 inner byte rest refl e u))
+  string_joins text rest (wide inner e) u =
+      (refl, (refl, closes_unspliced 34 inner byte rest refl e u))
 
   char_parts : (text : List ℕ) → is_char_constant text ≡ true → Parts CharConstant text byte
   char_parts text e =
@@ -195,9 +224,11 @@ module _ (byte : ℕ) (g : Gap byte) where
       record {
         some = n;
         longest_here = λ rest. choose-char _ _ _ _ _ (length text)
-            (stopped-less is_identifier text byte rest (identifier_stops text) (char_no_identifier text q) n)
+            (stopped-less is_identifier text byte rest (identifier_stops text)
+            (char_no_identifier text q) n)
             (stopped-less is_number text byte rest (number_stops text) (char_no_number text q) n)
-            (stopped-whole is_char_constant text byte rest (char_closed text q) e n) (stopped-most is_string_literal text byte rest (char_no_string text q))
+            (stopped-whole is_char_constant text byte rest (char_closed text q) e n)
+            (stopped-most is_string_literal text byte rest (char_no_string text q))
             (stopped-most is_punctuator text byte rest (punctuator_stops text));
         begins = λ line rest. char_begins text line rest q;
         joins = λ rest u. char_joins text rest q u;
@@ -210,9 +241,11 @@ module _ (byte : ℕ) (g : Gap byte) where
       record {
         some = n;
         longest_here = λ rest. choose-string _ _ _ _ _ (length text)
-            (stopped-less is_identifier text byte rest (identifier_stops text) (string_no_identifier text q) n)
+            (stopped-less is_identifier text byte rest (identifier_stops text)
+            (string_no_identifier text q) n)
             (stopped-less is_number text byte rest (number_stops text) (string_no_number text q) n)
-            (stopped-less is_char_constant text byte rest (string_no_char text q) (string_is_no_char text q) n)
+            (stopped-less is_char_constant text byte rest (string_no_char text q)
+            (string_is_no_char text q) n)
             (stopped-whole is_string_literal text byte rest (string_closed text q) e n)
             (stopped-most is_punctuator text byte rest (punctuator_stops text));
         begins = λ line rest. string_begins text line rest q;

@@ -70,17 +70,21 @@ one_token HashHash = refl
 ------ to the table
 
 module _ (t : List ℕ → Bool) where
-  among : (a : List ℕ) (table : List (List ℕ)) → list_any (bytes_eq a) table ≡ true → list_all t table ≡ true → t a ≡ true
+  among : (a : List ℕ) (table : List (List ℕ)) → list_any (bytes_eq a) table ≡ true
+      → list_all t table ≡ true → t a ≡ true
   among a [] e f = absurd (cc)
   among a (y ∷ table) e f = elim (either (bytes_eq a y) (list_any (bytes_eq a) table) e) [
-    | inl g ↦ let s : a ≡ y = grind (arith, bytes_eq-Decides) in rw s (left (t y) (list_all t table) f)
+    | inl g ↦ let s : a ≡ y = grind (arith, bytes_eq-Decides) in
+        rw s (left (t y) (list_all t table) f)
     | inr g ↦ among a table g (right (t y) (list_all t table) f)
   ]
 
-  among_bytes : (a : ℕ) (table : List ℕ) → list_any (λ byte. a == byte) table ≡ true → list_all (λ byte. t (byte ∷ [])) table ≡ true → t (a ∷ []) ≡ true
+  among_bytes : (a : ℕ) (table : List ℕ) → list_any (λ byte. a == byte) table ≡ true
+      → list_all (λ byte. t (byte ∷ [])) table ≡ true → t (a ∷ []) ≡ true
   among_bytes a [] e f = absurd (cc)
   among_bytes a (y ∷ table) e f = elim (either (a == y) (list_any (λ byte. a == byte) table) e) [
-    | inl g ↦ let s : a ≡ y = grind (arith, nat_tests) in rw s (left (t (y ∷ [])) (list_all (λ byte. t (byte ∷ [])) table) f)
+    | inl g ↦ let s : a ≡ y = grind (arith, nat_tests) in
+        rw s (left (t (y ∷ [])) (list_all (λ byte. t (byte ∷ [])) table) f)
     | inr g ↦ among_bytes a table g (right (t (y ∷ [])) (list_all (λ byte. t (byte ∷ [])) table) f)
   ]
 
@@ -94,8 +98,10 @@ is_known (a ∷ b ∷ []) e = among known (a ∷ b ∷ []) pairs e refl
 is_known (a ∷ b ∷ c ∷ []) e = among known (a ∷ b ∷ c ∷ []) triples e refl
 is_known (_ ∷ _ ∷ _ ∷ _ ∷ _) e = absurd (cc)
 
-spelled : (text : List ℕ) (kind : Option PpKind) → kind ≡ whole_token text → kind ≡ Some Punctuator → is_punctuator text ≡ true
+spelled : (text : List ℕ) (kind : Option PpKind) → kind ≡ whole_token text → kind ≡ Some Punctuator
+    → is_punctuator text ≡ true
 spelled text kind e f = let whole = whole-longest text in (rw (sym e ∙ f) at whole).0
 
-pub in_table : (text : List ℕ) (kind : Option PpKind) → kind ≡ whole_token text → kind ≡ Some Punctuator → known text ≡ true
+pub in_table : (text : List ℕ) (kind : Option PpKind) → kind ≡ whole_token text
+    → kind ≡ Some Punctuator → known text ≡ true
 in_table text kind e f = is_known text (spelled text kind e f)

@@ -52,7 +52,8 @@ plain_word byte e = grind (arith, nat_tests)
 word_first : (byte : ℕ) → is_nondigit byte ≡ true → is_identifier_byte byte ≡ true
 word_first byte e = rw e refl
 
-plain_number : (exponent : Bool) (byte : ℕ) → may_continue exponent byte ≡ true → is_plain byte ≡ true
+plain_number : (exponent : Bool) (byte : ℕ) → may_continue exponent byte ≡ true
+    → is_plain byte ≡ true
 plain_number true byte e = grind (arith, nat_tests)
 plain_number false byte e = grind (arith, nat_tests)
 
@@ -62,11 +63,14 @@ plain_words (x ∷ xs) e = both _ _ (plain_word x (left _ _ e)) (plain_words xs 
 
 pub plain_identifier : (text : List ℕ) → is_identifier text ≡ true → IsPlain text
 plain_identifier [] e = refl
-plain_identifier (x ∷ xs) e = both _ _ (plain_word x (word_first x (left _ _ e))) (plain_words xs (right _ _ e))
+plain_identifier (x ∷ xs) e =
+    both _ _ (plain_word x (word_first x (left _ _ e))) (plain_words xs (right _ _ e))
 
-plain_rest : (exponent : Bool) (text : List ℕ) → continues_number exponent text ≡ true → IsPlain text
+plain_rest : (exponent : Bool) (text : List ℕ) → continues_number exponent text ≡ true
+    → IsPlain text
 plain_rest exponent [] e = refl
-plain_rest exponent (x ∷ xs) e = both _ _ (plain_number exponent x (left _ _ e)) (plain_rest (is_exponent x) xs (right _ _ e))
+plain_rest exponent (x ∷ xs) e =
+    both _ _ (plain_number exponent x (left _ _ e)) (plain_rest (is_exponent x) xs (right _ _ e))
 
 plain_digit : (byte : ℕ) → is_digit byte ≡ true → is_plain byte ≡ true
 plain_digit byte e = grind (arith, nat_tests)
@@ -88,7 +92,8 @@ plain_number_text (x ∷ xs) e = elim (either _ _ e) [
 -- punctuators have the bytes of the tables
 
 module _ (t : ℕ → Bool) where
-  among_bytes : (a : ℕ) (table : List ℕ) → list_any (λ byte. a == byte) table ≡ true → list_all t table ≡ true → t a ≡ true
+  among_bytes : (a : ℕ) (table : List ℕ) → list_any (λ byte. a == byte) table ≡ true
+      → list_all t table ≡ true → t a ≡ true
   among_bytes a [] e f = absurd (cc)
   among_bytes a (y ∷ table) e f = elim (either _ _ e) [
     | inl g ↦ rw (same_byte a y g) (left _ _ f)
@@ -98,7 +103,8 @@ module _ (t : ℕ → Bool) where
   same_text : (a b : List ℕ) → bytes_eq a b ≡ true → a ≡ b
   same_text a b e = grind (arith, bytes_eq-Decides)
 
-  among_texts : (a : List ℕ) (table : List (List ℕ)) → list_any (bytes_eq a) table ≡ true → list_all (list_all t) table ≡ true → list_all t a ≡ true
+  among_texts : (a : List ℕ) (table : List (List ℕ)) → list_any (bytes_eq a) table ≡ true
+      → list_all (list_all t) table ≡ true → list_all t a ≡ true
   among_texts a [] e f = absurd (cc)
   among_texts a (y ∷ table) e f = elim (either _ _ e) [
     | inl g ↦ rw (same_text a y g) (left _ _ f)
@@ -109,7 +115,8 @@ module _ (t : ℕ → Bool) where
   singles = codes "[](){}.&*+-~!/%<>^|?:;=,#"
 
   abbrev Tables : Type 0
-  Tables = (list_all t singles ≡ true) × (list_all (list_all t) pairs ≡ true) × (list_all (list_all t) triples ≡ true)
+  Tables = (list_all t singles ≡ true) × (list_all (list_all t) pairs ≡ true)
+      × (list_all (list_all t) triples ≡ true)
 
   punctuator_bytes : (text : List ℕ) → Tables → is_punctuator text ≡ true → list_all t text ≡ true
   punctuator_bytes [] h e = refl
@@ -123,28 +130,44 @@ plain_punctuator text e = punctuator_bytes is_plain text (refl, refl, refl) e
 
 -- a byte that is not plain ends a spelling of plain bytes
 
-not_within : (text : List ℕ) (byte : ℕ) (f : List ℕ) → is_plain byte ≡ false → IsPlain (text ++ byte ∷ f) → ⊥
-not_within [] byte f e h = let g : is_plain byte ≡ true = left (is_plain byte) (list_all is_plain f) h in absurd (cc)
+not_within : (text : List ℕ) (byte : ℕ) (f : List ℕ) → is_plain byte ≡ false
+    → IsPlain (text ++ byte ∷ f) → ⊥
+not_within [] byte f e h = let g : is_plain byte ≡ true =
+    left (is_plain byte) (list_all is_plain f) h in absurd (cc)
 not_within (x ∷ text) byte f e h = not_within text byte f e (right _ _ h)
 
-pub stops_plain : (p : List ℕ → Bool) (text : List ℕ) (byte : ℕ) → ((s : List ℕ) → p s ≡ true → IsPlain s) → is_plain byte ≡ false → Stops p text byte
+pub stops_plain : (p : List ℕ → Bool) (text : List ℕ) (byte : ℕ)
+    → ((s : List ℕ) → p s ≡ true → IsPlain s) → is_plain byte ≡ false → Stops p text byte
 stops_plain p text byte h e = λ f. refuted _ (λ g. not_within text byte f e (h _ g))
 
 plain_differs : (x q : ℕ) → is_plain x ≡ true → is_plain q ≡ false → (x == q) ≡ false
-plain_differs x q e f = refuted _ (λ g. let s = same_byte x q g in let h : is_plain q ≡ true = rw s at e in cc)
+plain_differs x q e f =
+    refuted _ (λ g. let s = same_byte x q g in let h : is_plain q ≡ true = rw s at e in cc)
 
 abbrev is_wide : ℕ → List ℕ → Bool
 is_wide q text = optional 76 (is_quoted q) text
 
-pub stops_unquoted : (q : ℕ) (text : List ℕ) (byte : ℕ) → IsPlain text → is_plain q ≡ false → 0 < length text → (byte == q) ≡ false → Stops (is_wide q) text byte
+pub stops_unquoted : (q : ℕ) (text : List ℕ) (byte : ℕ) → IsPlain text → is_plain q ≡ false
+    → 0 < length text → (byte == q) ≡ false → Stops (is_wide q) text byte
 stops_unquoted q [] byte h e some b = absurd (omega arith)
-stops_unquoted q (x ∷ []) byte h e some b = λ f. rw (plain_differs x q (first_of is_plain x [] h) e, b) (never_both (x == 76))
-stops_unquoted q (x ∷ y ∷ text) byte h e some b = λ f. rw (plain_differs x q (first_of is_plain x (y ∷ text) h) e, plain_differs y q (second_of is_plain x y text h) e) (never_both (x == 76))
+stops_unquoted q (x ∷ []) byte h e some b =
+    λ f. rw (plain_differs x q (first_of is_plain x [] h) e, b) (never_both (x == 76))
+stops_unquoted q (x ∷ y ∷ text) byte h e some b =
+    λ f. rw (
+      plain_differs x q (first_of is_plain x (y ∷ text) h) e,
+      plain_differs y q
+          (second_of is_plain x y text h) e,
+    ) (never_both (x == 76))
 
 pub unquoted : (q : ℕ) (text : List ℕ) → IsPlain text → is_plain q ≡ false → is_wide q text ≡ false
 unquoted q [] h e = refl
 unquoted q (x ∷ []) h e = rw (plain_differs x q (first_of is_plain x [] h) e) (never_both (x == 76))
-unquoted q (x ∷ y ∷ text) h e = rw (plain_differs x q (first_of is_plain x (y ∷ text) h) e, plain_differs y q (second_of is_plain x y text h) e) (never_both (x == 76))
+unquoted q (x ∷ y ∷ text) h e =
+    rw (
+      plain_differs x q (first_of is_plain x (y ∷ text) h) e,
+      plain_differs y q
+          (second_of is_plain x y text h) e,
+    ) (never_both (x == 76))
 
 -- a number and a punctuator are no identifier, and a punctuator is no number
 
@@ -170,20 +193,30 @@ wordless_nondigit x e = grind (arith, nat_tests)
 wordless_digit : (x : ℕ) → is_wordless x ≡ true → is_digit x ≡ false
 wordless_digit x e = grind (arith, nat_tests)
 
-wordless_identifier : (text : List ℕ) → list_all is_wordless text ≡ true → is_identifier text ≡ false
+wordless_identifier : (text : List ℕ) → list_all is_wordless text ≡ true
+    → is_identifier text ≡ false
 wordless_identifier [] h = refl
 wordless_identifier (x ∷ xs) h = rw (wordless_nondigit x (first_of is_wordless x xs h)) refl
 
 wordless_number : (text : List ℕ) → list_all is_wordless text ≡ true → is_number text ≡ false
 wordless_number [] h = refl
-wordless_number (x ∷ []) h = rw (wordless_digit x (first_of is_wordless x [] h)) (never_both (x == 46))
-wordless_number (x ∷ y ∷ text) h = rw (wordless_digit x (first_of is_wordless x (y ∷ text) h), wordless_digit y (second_of is_wordless x y text h)) (never_both (x == 46))
+wordless_number (x ∷ []) h =
+    rw (wordless_digit x (first_of is_wordless x [] h)) (never_both (x == 46))
+wordless_number (x ∷ y ∷ text) h =
+    rw (
+      wordless_digit x (first_of is_wordless x (y ∷ text) h),
+      wordless_digit y
+          (second_of is_wordless x y text h),
+    ) (never_both (x == 46))
 
-pub punctuator_no_identifier : (text : List ℕ) → is_punctuator text ≡ true → is_identifier text ≡ false
-punctuator_no_identifier text e = wordless_identifier text (punctuator_bytes is_wordless text (refl, refl, refl) e)
+pub punctuator_no_identifier : (text : List ℕ) → is_punctuator text ≡ true
+    → is_identifier text ≡ false
+punctuator_no_identifier text e =
+    wordless_identifier text (punctuator_bytes is_wordless text (refl, refl, refl) e)
 
 pub punctuator_no_number : (text : List ℕ) → is_punctuator text ≡ true → is_number text ≡ false
-punctuator_no_number text e = wordless_number text (punctuator_bytes is_wordless text (refl, refl, refl) e)
+punctuator_no_number text e =
+    wordless_number text (punctuator_bytes is_wordless text (refl, refl, refl) e)
 
 -- character constants and string literals
 
@@ -193,16 +226,20 @@ pub data Quoted (q : ℕ) : List ℕ → Type 0 where
 
 wide_of : (q x : ℕ) (xs : List ℕ) → x ≡ 76 → is_quoted q xs ≡ true → Quoted q (x ∷ xs)
 wide_of q x [] e f = absurd (cc)
-wide_of q x (y ∷ ys) e f = rw (e, same_byte y q (left (y == q) (closes true q false ys) f)) (wide ys (right (y == q) (closes true q false ys) f))
+wide_of q x (y ∷ ys) e f =
+    rw (e, same_byte y q (left (y == q) (closes true q false ys) f))
+    (wide ys (right (y == q) (closes true q false ys) f))
 
 pub quoted : (q : ℕ) (text : List ℕ) → is_wide q text ≡ true → Quoted q text
 quoted q [] e = absurd (cc)
 quoted q (x ∷ xs) e = elim (either _ _ e) [
-  | inl f ↦ rw (same_byte x q (left (x == q) (closes true q false xs) f)) (short xs (right (x == q) (closes true q false xs) f))
+  | inl f ↦ rw (same_byte x q (left (x == q) (closes true q false xs) f))
+      (short xs (right (x == q) (closes true q false xs) f))
   | inr f ↦ wide_of q x xs (same_byte x 76 (left _ _ f)) (right _ _ f)
 ]
 
-closed_here : (t : Bool) (text : List ℕ) (c d : Bool) (byte : ℕ) (f : List ℕ) → cond t (is_empty text) c ≡ true → (c ≡ true → d ≡ false)
+closed_here : (t : Bool) (text : List ℕ) (c d : Bool) (byte : ℕ) (f : List ℕ)
+    → cond t (is_empty text) c ≡ true → (c ≡ true → d ≡ false)
     → cond t (is_empty (text ++ byte ∷ f)) d ≡ false
 closed_here true [] c d byte f e h = refl
 closed_here true (x ∷ text) c d byte f e h = refl
@@ -211,8 +248,11 @@ closed_here false text c d byte f e h = h e
 neither : (a b : Bool) → b ≡ false → (a && b) ≡ false
 neither a b e = rw e (never_both a)
 
-pub closed : (q : ℕ) (escaped : Bool) (text : List ℕ) (byte : ℕ) (f : List ℕ) → closes true q escaped text ≡ true → closes true q escaped (text ++ byte ∷ f) ≡ false
+pub closed : (q : ℕ) (escaped : Bool) (text : List ℕ) (byte : ℕ) (f : List ℕ)
+    → closes true q escaped text ≡ true → closes true q escaped (text ++ byte ∷ f) ≡ false
 closed q escaped [] byte f e = absurd (cc)
-closed q true (x ∷ text) byte f e = neither (not (x == 10)) _ (closed q false text byte f (right _ _ e))
+closed q true (x ∷ text) byte f e =
+    neither (not (x == 10)) _ (closed q false text byte f (right _ _ e))
 closed q false (x ∷ text) byte f e =
-    neither (not (x == 10)) _ (closed_here (x == q) text _ _ byte f (right _ _ e) (λ g. closed q (x == 92) text byte f g))
+    neither (not (x == 10)) _ (closed_here (x == q) text _ _ byte f (right _ _ e)
+    (λ g. closed q (x == 92) text byte f g))

@@ -18,8 +18,10 @@ line-some-of text rest e = rw e (omega arith)
 shorter : (n k : ℕ) (text : List ℕ) → length text ≤ suc n → 0 < k → length (drop k text) ≤ n
 shorter n k text h some = simp length-drop (omega arith)
 
-module _ (file n : ℕ) (deeper : (line : LinePrefix) (space : Bool) (text places : List ℕ) → length text ≤ n → Cuttable file line space text places) where
-  go : (line : LinePrefix) (space : Bool) (byte : ℕ) (bytes places : List ℕ) (f : Prefix) → length (byte ∷ bytes) ≤ suc n → View line byte bytes f → prefix line (byte ∷ bytes) ≡ f
+module _ (file n : ℕ) (deeper : (line : LinePrefix) (space : Bool) (text places : List ℕ)
+    → length text ≤ n → Cuttable file line space text places) where
+  go : (line : LinePrefix) (space : Bool) (byte : ℕ) (bytes places : List ℕ) (f : Prefix)
+      → length (byte ∷ bytes) ≤ suc n → View line byte bytes f → prefix line (byte ∷ bytes) ≡ f
       → Cuttable file line space (byte ∷ bytes) places
   go line space byte bytes places f h (view_newline a) e =
       let r = deeper Start false bytes (drop 1 places) (omega arith) in (r.0, at_newline e r.1)
@@ -28,23 +30,32 @@ module _ (file n : ℕ) (deeper : (line : LinePrefix) (space : Bool) (text place
   go line space byte bytes places f h (view_line a) e =
       let shape = line_comment-shape byte bytes a in
       let k : ℕ = line_len (byte ∷ bytes) in
-      let r = deeper line true (drop k (byte ∷ bytes)) (drop k places) (shorter n k (byte ∷ bytes) h (line-some-of (byte ∷ bytes) shape.0 shape.1)) in
+      let r =
+      deeper line true (drop k (byte ∷ bytes)) (drop k places)
+      (shorter n k (byte ∷ bytes) h (line-some-of (byte ∷ bytes) shape.0 shape.1)) in
       (r.0, at_comment k e r.1)
-  go line space byte bytes places f h view_open e = (open_comment (get_or places 0 0), at_open_comment e)
+  go line space byte bytes places f h view_open e =
+      (open_comment (get_or places 0 0), at_open_comment e)
   go line space byte bytes places f h (view_block m a b) e =
-      let r = deeper line true (drop (2 + suc m) (byte ∷ bytes)) (drop (2 + suc m) places) (shorter n (2 + suc m) (byte ∷ bytes) h (omega arith)) in
+      let r =
+      deeper line true (drop (2 + suc m) (byte ∷ bytes)) (drop (2 + suc m) places)
+      (shorter n (2 + suc m) (byte ∷ bytes) h (omega arith)) in
       (r.0, at_comment (2 + suc m) e r.1)
   go line space byte bytes places f h view_token e =
       let m = token_at line (byte ∷ bytes) in
       let fits = token_at-fits line byte bytes in
-      let r = deeper (line_after line (take m.len (byte ∷ bytes))) false (drop m.len (byte ∷ bytes)) (drop m.len places) (shorter n m.len (byte ∷ bytes) h fits.0) in
+      let r =
+      deeper (line_after line (take m.len (byte ∷ bytes))) false (drop m.len (byte ∷ bytes))
+      (drop m.len places) (shorter n m.len (byte ∷ bytes) h fits.0) in
       (_, at_token m e r.1)
 
-cuttable : (n file : ℕ) (line : LinePrefix) (space : Bool) (text places : List ℕ) → length text ≤ n → Cuttable file line space text places
+cuttable : (n file : ℕ) (line : LinePrefix) (space : Bool) (text places : List ℕ) → length text ≤ n
+    → Cuttable file line space text places
 cuttable n file line space [] places h = (tokens [], at_end refl)
 cuttable zero file line space (byte ∷ bytes) places h = absurd (omega arith)
 cuttable (suc n) file line space (byte ∷ bytes) places h =
     go file n (cuttable n file) line space byte bytes places _ h (view line byte bytes) refl
 
 pub total : (file : ℕ) (bytes : List ℕ) → (cutting : Cutting) × IsCut file bytes cutting
-total file bytes = cuttable (length (spliced bytes)) file Start false (spliced bytes) (offsets bytes) (omega arith)
+total file bytes =
+    cuttable (length (spliced bytes)) file Start false (spliced bytes) (offsets bytes) (omega arith)

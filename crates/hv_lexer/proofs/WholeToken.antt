@@ -39,7 +39,9 @@ no_splice b (c ∷ []) e =
     rw f (simp never_both)
 no_splice b (c ∷ d ∷ bytes) e =
     let f : (10 == c) ≡ false = turned c (first_of (c == 10) (has_newline (d ∷ bytes)) e) in
-    let g : (10 == d) ≡ false = turned d (first_of (d == 10) (has_newline bytes) (rest_of (c == 10) (has_newline (d ∷ bytes)) e)) in
+    let g : (10 == d) ≡ false =
+    turned d (first_of (d == 10) (has_newline bytes)
+    (rest_of (c == 10) (has_newline (d ∷ bytes)) e)) in
     rw (f, g) (simp never_both)
 
 unspliced : (text : List ℕ) → has_newline text ≡ false → IsUnspliced text
@@ -56,25 +58,32 @@ spliced_text text e = spliced_same text (unspliced text e)
 same_len : (a b : ℕ) → (a == b) ≡ true → a ≡ b
 same_len a b e = grind (arith, nat_tests)
 
-longest_at : (text : List ℕ) (m : Match) → prefix Rest text ≡ Token m → m.len ≡ length text → IsLongestToken m.kind text []
-longest_at text m e len = rw (len, take-length text, drop-length text) at (prefix-longest Rest text m e)
+longest_at : (text : List ℕ) (m : Match) → prefix Rest text ≡ Token m → m.len ≡ length text
+    → IsLongestToken m.kind text []
+longest_at text m e len =
+    rw (len, take-length text, drop-length text) at (prefix-longest Rest text m e)
 
-by_kind : (text : List ℕ) (p : Prefix) → prefix Rest text ≡ p → IfSome (whole_kind (length text) p) (λ kind. IsLongestToken kind text [])
+by_kind : (text : List ℕ) (p : Prefix) → prefix Rest text ≡ p
+    → IfSome (whole_kind (length text) p) (λ kind. IsLongestToken kind text [])
 by_kind text End e = tt
 by_kind text WhiteSpace e = tt
 by_kind text Newline e = tt
 by_kind text (Comment n) e = tt
 by_kind text OpenComment e = tt
 by_kind text (Token m) e =
-    elim (m.len == length text) as (λ t. (m.len == length text) ≡ t → IfSome (cond t (Some m.kind) None) (λ kind. IsLongestToken kind text [])) [
+    elim (m.len == length text) as (λ t. (m.len == length text) ≡ t
+    → IfSome (cond t (Some m.kind) None) (λ kind. IsLongestToken kind text [])) [
       | true ↦ λ same. longest_at text m e (same_len _ _ same)
       | false ↦ λ other. tt
     ] refl
 
 -- what is one token is the longest one
-pub whole-longest : (text : List ℕ) → IfSome (whole_token text) (λ kind. IsLongestToken kind text [])
+pub whole-longest : (text : List ℕ)
+    → IfSome (whole_token text) (λ kind. IsLongestToken kind text [])
 whole-longest text =
-    elim (has_newline text) as (λ t. IfSome (cond t None (whole_kind (length text) (prefix Rest text))) (λ kind. IsLongestToken kind text [])) [
+    elim (has_newline text) as (λ t. IfSome
+    (cond t None (whole_kind (length text) (prefix Rest text)))
+    (λ kind. IsLongestToken kind text [])) [
       | true ↦ tt
       | false ↦ by_kind text (prefix Rest text) refl
     ]
@@ -85,12 +94,14 @@ module _ (text : List ℕ) (newline : Bool) (has : newline ≡ has_newline text)
   pub whole-newline : newline ≡ true → None ≡ whole_token text
   whole-newline e = let h : has_newline text ≡ true = sym has ∙ e in rw h refl
 
-  pub whole-here : (left : List ℕ) (p : Prefix) (len : ℕ) (kind : Option PpKind) → newline ≡ false → left ≡ spliced text → p ≡ prefix Rest left
+  pub whole-here : (left : List ℕ) (p : Prefix) (len : ℕ) (kind : Option PpKind) → newline ≡ false
+      → left ≡ spliced text → p ≡ prefix Rest left
       → len ≡ length text → kind ≡ whole_kind len p → kind ≡ whole_token text
   whole-here left p len kind e was is size f =
       let h : has_newline text ≡ false = sym has ∙ e in
       let same : left ≡ text = was ∙ spliced_text text h in
       rw (f, size, is, same, h) refl
 
-pub longest-of : (text : List ℕ) (kind : Option PpKind) → kind ≡ whole_token text → IfSome kind (λ k. IsLongestToken k text [])
+pub longest-of : (text : List ℕ) (kind : Option PpKind) → kind ≡ whole_token text
+    → IfSome kind (λ k. IsLongestToken k text [])
 longest-of text kind e = rw e (whole-longest text)

@@ -222,8 +222,7 @@ fn a_splice_may_stand_at_every_offset(rt: HostRuntime) -> Result<(), Fail> {
 
 #[test]
 fn each_punctuator_is_one_token(rt: HostRuntime) -> Result<(), Fail> {
-    let all =
-        "[ ] ( ) { } . -> ++ -- & * + - ~ ! / % << >> < > <= >= == != ^ | && || ? : ; ... \
+    let all = "[ ] ( ) { } . -> ++ -- & * + - ~ ! / % << >> < > <= >= == != ^ | && || ? : ; ... \
         = *= /= %= += -= <<= >>= &= ^= |= , # ##";
     let tokens = lex(rt.alloc(), 0, all.as_bytes())?;
     assert_eq!(rt; tokens.len(), 48);

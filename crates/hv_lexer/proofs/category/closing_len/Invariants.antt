@@ -5,7 +5,8 @@ use Rattle.hv_lexer.proofs.category.closing_len.Given as goal
 
 abbrev pub invariant-loop-next : goal.invariant-loop-next
 invariant-loop-next l = record {
-  value : closes_len l.escapes l.quote false (text_of l.text) ≡ shifted l.len (closes_len l.escapes l.quote l.escaped (text_of l.rest));
+  value : closes_len l.escapes l.quote false (text_of l.text)
+      ≡ shifted l.len (closes_len l.escapes l.quote l.escaped (text_of l.rest));
   within : length (text_of l.text) ≡ l.len + length (text_of l.rest);
 }
 

@@ -8,4 +8,6 @@ pub overflow_add-result : goal.overflow_add-result
 overflow_add-result c = let h = text-bounded c.args.first.rest in omega arith
 
 pub returns-else-is_ascii_digit-clause-value : goal.returns-else-is_ascii_digit-clause-value
-returns-else-is_ascii_digit-clause-value c = sym (digits-no c.args.first.byte (text_of c.args.first.rest) (sym c.is_ascii_digit.ensures.value ∙ c.if-is_ascii_digit.false))
+returns-else-is_ascii_digit-clause-value c =
+    sym (digits-no c.args.first.byte (text_of c.args.first.rest)
+    (sym c.is_ascii_digit.ensures.value ∙ c.if-is_ascii_digit.false))

@@ -8,4 +8,6 @@ pub after_byte-requires : goal.after_byte-requires
 after_byte-requires c = let h = text-bounded c.args.first.rest in omega arith
 
 pub returns-else-first-quote-clause-value : goal.returns-else-first-quote-clause-value
-returns-else-first-quote-clause-value c = sym (quoted-no c.args.quote c.args.first.byte (text_of c.args.first.rest) c.if-first-quote.false)
+returns-else-first-quote-clause-value c =
+    sym (quoted-no c.args.quote c.args.first.byte (text_of c.args.first.rest)
+    c.if-first-quote.false)

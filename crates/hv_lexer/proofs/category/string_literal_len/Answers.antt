@@ -4,4 +4,6 @@ use Rattle.hv_lexer.proofs.LongestLemmas.{longest-from}
 use Rattle.hv_lexer.proofs.category.string_literal_len.Goals as goal
 
 pub returns-clause-greatest : goal.returns-clause-greatest
-returns-clause-greatest c = longest-from is_string_literal (text_from c.args.first) c.wide_quoted_len.result c.wide_quoted_len.ensures.value
+returns-clause-greatest c =
+    longest-from is_string_literal (text_from c.args.first) c.wide_quoted_len.result
+    c.wide_quoted_len.ensures.value

@@ -6,7 +6,8 @@ use Rattle.hv_lexer.proofs.category.word_len.Given as goal
 
 abbrev pub invariant-loop-next : goal.invariant-loop-next
 invariant-loop-next l = record {
-  value : prefix_len is_identifier_byte (text_of l.text) ≡ l.len + prefix_len is_identifier_byte (text_of l.rest);
+  value : prefix_len is_identifier_byte (text_of l.text)
+      ≡ l.len + prefix_len is_identifier_byte (text_of l.rest);
   within : length (text_of l.text) ≡ l.len + length (text_of l.rest);
 }
 

@@ -15,6 +15,8 @@ overflow_add-len c = let h = text-bounded c.args.text in omega arith
 
 pub loop-next-preserved : goal.loop-next-preserved
 loop-next-preserved c = record {
-  value = c.loop-next.invariant.value ∙ rw c.in-Some.ensures.text (closing-step c.loop-next.len c.in-Some.next.byte (text_of c.in-Some.next.rest) (sym c.begins.ensures ∙ c.if-begins.false));
+  value = c.loop-next.invariant.value
+      ∙ rw c.in-Some.ensures.text (closing-step c.loop-next.len c.in-Some.next.byte
+      (text_of c.in-Some.next.rest) (sym c.begins.ensures ∙ c.if-begins.false));
   within = omega (arith, c.loop-next.invariant.within, ap length c.in-Some.ensures.text);
 }

@@ -6,14 +6,17 @@ use Rattle.hv_lexer.proofs.WholeToken.{longest-of, whole-here, whole-newline}
 use Rattle.hv_lexer.proofs.whole.whole_token.Goals as goal
 
 pub returns-then-contains-clause-value : goal.returns-then-contains-clause-value
-returns-then-contains-clause-value c = whole-newline c.args.text.now c.contains.result c.contains.ensures.value c.if-contains.true
+returns-then-contains-clause-value c =
+    whole-newline c.args.text.now c.contains.result c.contains.ensures.value c.if-contains.true
 
 pub returns-then-contains-clause-longest : goal.returns-then-contains-clause-longest
-returns-then-contains-clause-longest c = longest-of c.args.text.now None (returns-then-contains-clause-value c)
+returns-then-contains-clause-longest c =
+    longest-of c.args.text.now None (returns-then-contains-clause-value c)
 
 pub returns-clause-value : goal.returns-clause-value
 returns-clause-value c =
-    whole-here c.args.text.now c.contains.result c.contains.ensures.value (text_of c.new.result) c.prefix.result (length c.args.text.now) c.whole_kind.result
+    whole-here c.args.text.now c.contains.result c.contains.ensures.value (text_of c.new.result)
+    c.prefix.result (length c.args.text.now) c.whole_kind.result
     c.if-contains.false c.new.ensures.text c.prefix.ensures.value refl c.whole_kind.ensures
 
 pub returns-clause-longest : goal.returns-clause-longest
@@ -23,7 +26,8 @@ pub returns-then-contains-clause-punctuators : goal.returns-then-contains-clause
 returns-then-contains-clause-punctuators c = one_token
 
 pub returns-then-contains-clause-table : goal.returns-then-contains-clause-table
-returns-then-contains-clause-table c = in_table c.args.text.now None (returns-then-contains-clause-value c)
+returns-then-contains-clause-table c =
+    in_table c.args.text.now None (returns-then-contains-clause-value c)
 
 pub returns-clause-punctuators : goal.returns-clause-punctuators
 returns-clause-punctuators c = one_token

@@ -22,17 +22,31 @@ returns-clause-encodes c =
     let slice = c.as_slice.result.now in
     let same = sym c.as_slice.ensures.value in
     let Known : List BodyLine → Type 0 = λ lines. All (IsKnown names) lines in
-    let Cut : List BodyLine → Type 0 = λ lines. IsCutInto source (head_line ∷ main_line ∷ (map spelled (map (plain names) lines) ++ closing)) in
-    let known = subst Known same (some_at c.in_ok-lines.field-0 c.in-Some.lines (λ lines. Known lines.items) c.in-Some.is c.in_ok-lines.ensures.known) in
-    let free = some_at c.in_ok-lines.field-0 c.in-Some.lines (λ _. IsFree names) c.in-Some.is c.in_ok-lines.ensures.free in
-    let cut = subst Cut same (some_at c.in_ok-lines.field-0 c.in-Some.lines (λ lines. Cut lines.items) c.in-Some.is c.in_ok-lines.ensures.some) in
-    let pruned = some_at c.in_ok-product.field-0 c.in-Some-2.product (IsLifted m slice) c.in-Some-2.is c.in_ok-product.ensures.lifted in
-    let nested : is_nested [] (map (plain names) slice) ≡ true = sym c.in_ok-product.ensures.nested ∙ ap is_some c.in-Some-2.is in
-    let named : AllOptionNames names = rw c.in_ok-product.ensures.model at c.in_ok-text.ensures.names in
+    let Cut : List BodyLine → Type 0 =
+    λ lines. IsCutInto source (head_line ∷ main_line ∷
+    (map spelled (map (plain names) lines) ++ closing)) in
+    let known =
+    subst Known same (some_at c.in_ok-lines.field-0 c.in-Some.lines (λ lines. Known lines.items)
+    c.in-Some.is c.in_ok-lines.ensures.known) in
+    let free =
+    some_at c.in_ok-lines.field-0 c.in-Some.lines (λ _. IsFree names) c.in-Some.is
+    c.in_ok-lines.ensures.free in
+    let cut =
+    subst Cut same (some_at c.in_ok-lines.field-0 c.in-Some.lines (λ lines. Cut lines.items)
+    c.in-Some.is c.in_ok-lines.ensures.some) in
+    let pruned =
+    some_at c.in_ok-product.field-0 c.in-Some-2.product (IsLifted m slice) c.in-Some-2.is
+    c.in_ok-product.ensures.lifted in
+    let nested : is_nested [] (map (plain names) slice) ≡ true = sym c.in_ok-product.ensures.nested
+    ∙ ap is_some c.in-Some-2.is in
+    let named : AllOptionNames names =
+    rw c.in_ok-product.ensures.model at c.in_ok-text.ensures.names in
     let printed = rw c.in_ok-product.ensures.model at c.in_ok-text.ensures.text in
     let kept = flat_map (statements_of names) c.in-Some-2.product.blocks in
-    encodes-product m slice known source c.in_ok-text.text (small_is names source slice free known cut nested)
-    (product_is m named slice (recursion_from_All (IsKnown names) slice known) kept pruned c.in_ok-text.text printed)
+    encodes-product m slice known source c.in_ok-text.text
+    (small_is names source slice free known cut nested)
+    (product_is m named slice (recursion_from_All (IsKnown names) slice known) kept pruned
+    c.in_ok-text.text printed)
 
 pub returns-clause-small : goal.returns-clause-small
 returns-clause-small c =
@@ -41,11 +55,20 @@ returns-clause-small c =
     let slice = c.as_slice.result.now in
     let same = sym c.as_slice.ensures.value in
     let Known : List BodyLine → Type 0 = λ lines. All (IsKnown names) lines in
-    let Cut : List BodyLine → Type 0 = λ lines. IsCutInto source (head_line ∷ main_line ∷ (map spelled (map (plain names) lines) ++ closing)) in
-    let known = subst Known same (some_at c.in_ok-lines.field-0 c.in-Some.lines (λ lines. Known lines.items) c.in-Some.is c.in_ok-lines.ensures.known) in
-    let free = some_at c.in_ok-lines.field-0 c.in-Some.lines (λ _. IsFree names) c.in-Some.is c.in_ok-lines.ensures.free in
-    let cut = subst Cut same (some_at c.in_ok-lines.field-0 c.in-Some.lines (λ lines. Cut lines.items) c.in-Some.is c.in_ok-lines.ensures.some) in
-    let nested : is_nested [] (map (plain names) slice) ≡ true = sym c.in_ok-product.ensures.nested ∙ ap is_some c.in-Some-2.is in
+    let Cut : List BodyLine → Type 0 =
+    λ lines. IsCutInto source (head_line ∷ main_line ∷
+    (map spelled (map (plain names) lines) ++ closing)) in
+    let known =
+    subst Known same (some_at c.in_ok-lines.field-0 c.in-Some.lines (λ lines. Known lines.items)
+    c.in-Some.is c.in_ok-lines.ensures.known) in
+    let free =
+    some_at c.in_ok-lines.field-0 c.in-Some.lines (λ _. IsFree names) c.in-Some.is
+    c.in_ok-lines.ensures.free in
+    let cut =
+    subst Cut same (some_at c.in_ok-lines.field-0 c.in-Some.lines (λ lines. Cut lines.items)
+    c.in-Some.is c.in_ok-lines.ensures.some) in
+    let nested : is_nested [] (map (plain names) slice) ≡ true = sym c.in_ok-product.ensures.nested
+    ∙ ap is_some c.in-Some-2.is in
     (map (plain names) slice, small_is names source slice free known cut nested)
 
 pub returns-in_default-2-clause-refused : goal.returns-in_default-2-clause-refused
@@ -55,7 +78,14 @@ returns-in_default-2-clause-refused c =
     let slice = c.as_slice.result.now in
     let same = sym c.as_slice.ensures.value in
     let Known : List BodyLine → Type 0 = λ lines. All (IsKnown names) lines in
-    let Cut : List BodyLine → Type 0 = λ lines. IsCutInto source (head_line ∷ main_line ∷ (map spelled (map (plain names) lines) ++ closing)) in
-    let known = subst Known same (some_at c.in_ok-lines.field-0 c.in-Some.lines (λ lines. Known lines.items) c.in-Some.is c.in_ok-lines.ensures.known) in
-    let cut = subst Cut same (some_at c.in_ok-lines.field-0 c.in-Some.lines (λ lines. Cut lines.items) c.in-Some.is c.in_ok-lines.ensures.some) in
-    small_none names source slice known cut (sym c.in_ok-product.ensures.nested ∙ not_some c.in_ok-product.field-0 c.in_default-2.not-Some)
+    let Cut : List BodyLine → Type 0 =
+    λ lines. IsCutInto source (head_line ∷ main_line ∷
+    (map spelled (map (plain names) lines) ++ closing)) in
+    let known =
+    subst Known same (some_at c.in_ok-lines.field-0 c.in-Some.lines (λ lines. Known lines.items)
+    c.in-Some.is c.in_ok-lines.ensures.known) in
+    let cut =
+    subst Cut same (some_at c.in_ok-lines.field-0 c.in-Some.lines (λ lines. Cut lines.items)
+    c.in-Some.is c.in_ok-lines.ensures.some) in
+    small_none names source slice known cut
+    (sym c.in_ok-product.ensures.nested ∙ not_some c.in_ok-product.field-0 c.in_default-2.not-Some)

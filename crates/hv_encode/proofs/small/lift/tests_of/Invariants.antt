@@ -5,4 +5,5 @@ use Rattle.hv_encode.proofs.small.lift.tests_of.Given as goal
 
 -- the tests of the groups so far
 abbrev pub invariant-loop-one : goal.invariant-loop-one
-invariant-loop-one l = l.tests ≡ flat_map (λ one. own_tests one.group) (take l.one-index l.open_groups)
+invariant-loop-one l =
+    l.tests ≡ flat_map (λ one. own_tests one.group) (take l.one-index l.open_groups)

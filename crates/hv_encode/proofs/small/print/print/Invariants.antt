@@ -7,4 +7,5 @@ use Rattle.hv_encode.proofs.small.print.print.Given as goal
 -- the statements of the blocks so far are written
 abbrev pub invariant-loop-block : goal.invariant-loop-block
 invariant-loop-block l =
-    l.text ≡ l.initial.text ++ statements_text (flat_map (statements_of l.model.names) (take l.block-index l.blocks))
+    l.text ≡ l.initial.text ++ statements_text (flat_map (statements_of l.model.names)
+    (take l.block-index l.blocks))

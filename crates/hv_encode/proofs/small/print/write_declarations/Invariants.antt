@@ -5,4 +5,6 @@ use Rattle.hv_plain.specs.Run.{variables_of}
 use Rattle.hv_encode.proofs.small.print.write_declarations.Given as goal
 
 abbrev pub invariant-loop-option : goal.invariant-loop-option
-invariant-loop-option l = l.text ≡ l.fn.text ++ shown (flat_map declaration_tokens (variables_of (take l.option l.model.names)))
+invariant-loop-option l =
+    l.text ≡ l.fn.text ++ shown (flat_map declaration_tokens
+    (variables_of (take l.option l.model.names)))

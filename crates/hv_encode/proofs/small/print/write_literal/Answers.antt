@@ -10,8 +10,11 @@ returns c =
     let negated = c.args.test.negated in
     let names = c.args.model.now.names in
     let name = name_at names c.args.test.option in
-    wrote_three c.extend_from_slice-3.result start one c.extend_from_slice-2.new.self c.extend_from_slice-3.new.self
+    wrote_three c.extend_from_slice-3.result start one c.extend_from_slice-2.new.self
+    c.extend_from_slice-3.new.self
     (cond negated (codes "! hv_opt_") (codes "hv_opt_")) name (codes " ") _
     (c.in_ok-extend_from_slice.ensures.ok ∙ ap (λ t. start ++ t) c.sign.ensures)
-    (c.in_ok-extend_from_slice-2.ensures.ok ∙ ap (λ t. one ++ t) (c.as_bytes.ensures.value ∙ name_is names c.args.test.option c.name.result.now c.name.ensures))
+    (c.in_ok-extend_from_slice-2.ensures.ok
+    ∙ ap (λ t. one ++ t) (c.as_bytes.ensures.value
+    ∙ name_is names c.args.test.option c.name.result.now c.name.ensures))
     c.extend_from_slice-3.ensures.ok (literal_text name negated)

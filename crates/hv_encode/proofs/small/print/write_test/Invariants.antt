@@ -4,4 +4,5 @@ use Rattle.hv_encode.proofs.small.print.write_test.Given as goal
 
 -- the tests so far are written
 abbrev pub invariant-loop-test : goal.invariant-loop-test
-invariant-loop-test l = IsBegun l.fn.text (map (literal_of l.model.names) (take l.test-index l.tests)) l.text l.tested
+invariant-loop-test l =
+    IsBegun l.fn.text (map (literal_of l.model.names) (take l.test-index l.tests)) l.text l.tested

@@ -3,7 +3,8 @@ use Rattle.hv_model.specs.Bytes.{without_leading_blanks}
 use Rattle.hv_encode.proofs.small.trim.without_back_blanks.Given as goal
 
 abbrev pub invariant-loop-rest : goal.invariant-loop-rest
-invariant-loop-rest l = without_leading_blanks (reverse l.rest) ≡ without_leading_blanks (reverse l.fn.text)
+invariant-loop-rest l =
+    without_leading_blanks (reverse l.rest) ≡ without_leading_blanks (reverse l.fn.text)
 
 abbrev pub decreases-loop-rest : goal.decreases-loop-rest
 decreases-loop-rest l = length l.rest

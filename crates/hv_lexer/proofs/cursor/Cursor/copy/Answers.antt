@@ -8,5 +8,7 @@ loop-preserved c =
     let here = sym c.in-Some.ensures.text ∙ c.loop.invariant.rest in
     record {
       rest = walk-rest (text_of c.args.self) c.loop.counter _ _ here;
-      text = c.in_ok-push-in-Some.ensures.items ∙ (ap (λ xs. xs ++ c.in-Some.next.byte ∷ []) c.loop.invariant.text ∙ sym (walk-taken (text_of c.args.self) c.loop.counter _ _ here));
+      text = c.in_ok-push-in-Some.ensures.items
+          ∙ (ap (λ xs. xs ++ c.in-Some.next.byte ∷ []) c.loop.invariant.text
+          ∙ sym (walk-taken (text_of c.args.self) c.loop.counter _ _ here));
     }

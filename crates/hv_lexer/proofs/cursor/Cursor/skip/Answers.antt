@@ -5,16 +5,22 @@ use Rattle.hv_lexer.proofs.cursor.Cursor.skip.Goals as goal
 
 pub returns-in-None-clause-places : goal.returns-in-None-clause-places
 returns-in-None-clause-places c =
-    places-after c.args.self c.loop.rest c.args.len (walk-end (marks_of c.args.self) c.loop.counter c.args.len _ c.loop.invariant.rest c.in-None.ensures.marks (omega arith))
+    places-after c.args.self c.loop.rest c.args.len
+    (walk-end (marks_of c.args.self) c.loop.counter c.args.len _ c.loop.invariant.rest
+    c.in-None.ensures.marks (omega arith))
 
 pub returns-in-None-clause-last : goal.returns-in-None-clause-last
 returns-in-None-clause-last c = λ some within.
-    let short = text-short c.args.self c.loop.rest c.loop.counter c.loop.invariant.rest c.in-None.ensures.marks in
+    let short =
+    text-short c.args.self c.loop.rest c.loop.counter c.loop.invariant.rest
+    c.in-None.ensures.marks in
     absurd (omega arith)
 
 pub returns-in-None-clause-as_read : goal.returns-in-None-clause-as_read
 returns-in-None-clause-as_read c = λ within at.
-    let short = text-short c.args.self c.loop.rest c.loop.counter c.loop.invariant.rest c.in-None.ensures.marks in
+    let short =
+    text-short c.args.self c.loop.rest c.loop.counter c.loop.invariant.rest
+    c.in-None.ensures.marks in
     absurd (omega arith)
 
 pub loop-preserved : goal.loop-preserved
@@ -34,9 +40,12 @@ loop-preserved c =
       from = omega (arith, c.loop.invariant.from, c.in-Some.ensures.from);
       within = λ _. omega arith;
       as_read = λ e.
-          let here_at : c.in-Some.next.offset ≡ c.args.self.at + c.loop.counter = omega (arith, c.loop.invariant.from, c.in-Some.ensures.from) in
-          let rest_at : c.loop.rest.at ≡ c.args.self.at + c.loop.counter = omega (arith, c.loop.invariant.from, c.in-Some.ensures.from) in
-          as_read-more (text_of c.args.self) c.args.self.bytes.now c.args.self.at c.loop.counter c.in-Some.next.byte (text_of c.in-Some.next.rest)
+          let here_at : c.in-Some.next.offset ≡ c.args.self.at + c.loop.counter =
+          omega (arith, c.loop.invariant.from, c.in-Some.ensures.from) in
+          let rest_at : c.loop.rest.at ≡ c.args.self.at + c.loop.counter =
+          omega (arith, c.loop.invariant.from, c.in-Some.ensures.from) in
+          as_read-more (text_of c.args.self) c.args.self.bytes.now c.args.self.at c.loop.counter
+          c.in-Some.next.byte (text_of c.in-Some.next.rest)
           text (c.loop.invariant.as_read rest_at) (omega arith) (rw here_at at byte);
     }
 

@@ -10,5 +10,6 @@ invariant-loop l = record {
   same : l.rest.bytes ≡ l.self.bytes;
   from : l.self.at + l.counter ≤ l.rest.at;
   within : 0 < l.counter → l.rest.at ≤ length l.self.bytes.now;
-  as_read : l.rest.at ≡ l.self.at + l.counter → take l.counter (text_of l.self) ≡ take l.counter (drop l.self.at l.self.bytes.now);
+  as_read : l.rest.at ≡ l.self.at + l.counter
+      → take l.counter (text_of l.self) ≡ take l.counter (drop l.self.at l.self.bytes.now);
 }
