@@ -19,7 +19,8 @@ use Rattle.hv_encode.specs.declared.cli.answer.Answer.{Answer}
 use Rattle.hv_encode.specs.declared.cli.answer.Answer.TheVariants.{Encoded, LeftOut, BadWords, CannotRead, NoFile, TooBig, BadModel}
 use Rattle.hv_encode.specs.Answer.{status_of, want_of_memory}
 use Rattle.hv_encode.specs.Due.{Reads, Command, command_of, name_of, total_of, IsReadBefore, IsEncoded, IsDue, IsDueTo, IsDueFor, IsInput, IsBadModel, IsFile}
-use Rattle.hv_encode.specs.Given.{Writes, IsGiven}
+use Rattle.hv_encode.specs.Given.{Writes}
+use Rattle.hv_encode.specs.working.Given.{IsGiven}
 use Rattle.hv_encode.specs.Ends.{Answers, Fails, Starves, Unread, Ends, answered, failed, starved, Headline, AreRead, IsFirstUnusable, IsUsable, Blames, AnswersOrFails, IsGood, IsOrFails, Succeeds}
 
 module _ (words : List (List ℕ)) (reads : Reads) (w : Writes) where

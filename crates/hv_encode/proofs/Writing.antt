@@ -4,7 +4,8 @@ use Rattle.std.proofs.Math.Seq.{take-length}
 use Rattle.hv_outside.specs.Sink.{Adds, AddsPrefix}
 use Rattle.hv_encode.specs.declared.cli.answer.Answer.{Answer}
 use Rattle.hv_encode.specs.Answer.{output_of, message_of}
-use Rattle.hv_encode.specs.Given.{Writes, IsGiven, AddsOutput, AddsMessagePrefix, MessageFailed}
+use Rattle.hv_encode.specs.Given.{Writes, AddsOutput, AddsMessagePrefix, MessageFailed}
+use Rattle.hv_encode.specs.working.Given.{IsGiven}
 
 pub AddsPrefix-whole : (before now : Option (List ℕ)) (bytes : List ℕ) → Adds before now bytes
     → AddsPrefix before now bytes

@@ -68,9 +68,3 @@ pub record IsStarved (w : Writes) (status : ℕ) (output message : List ℕ) : T
   pub output_prefix : AddsOutputPrefix w output
   pub message_prefix : AddsMessagePrefix w want_of_memory
       ⊎ (AddsMessagePrefix w message ⊎ (OutputFailed w × AddsMessagePrefix w cannot_write))
-
--- an answer was given, or 4 or 5 stands in its place
-abbrev pub IsGiven : Writes → ℕ → Answer → Type 0
-IsGiven w status answer =
-    IsWhole w status answer
-    ⊎ (IsUnwritten w status answer ⊎ IsStarved w status (output_of answer) (message_of answer))

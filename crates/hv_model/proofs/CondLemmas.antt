@@ -8,6 +8,7 @@ use Rattle.std.proofs.Common.{zero, suc, ◌+◌, ◌<◌, ◌≤◌, length, ta
 use Rattle.std.specs.List.{list_all}
 use Rattle.std.proofs.lemmas.List.{take_more, take_all, map-append}
 use Rattle.std.proofs.lemmas.List.Folds.{list_all-append}
+use Rattle.hv_base.proofs.Booleans.{and_true}
 use Rattle.hv_model.specs.working.Conds.{held}
 use Rattle.hv_model.specs.Rule.{Rule, meets, meets_all}
 use Rattle.std.specs.Prelude.{IsTrue}
@@ -160,10 +161,6 @@ list_all-more p codes k d lt =
     ∙ (list_all-append p (map rule_of (take k codes)) (rule_of (get_or codes k d) ∷ [])
     ∙ ap (λ b. list_all p (map rule_of (take k codes)) && b)
     (and_true (p (rule_of (get_or codes k d))))))
-  where
-    and_true : (a : Bool) → (a && true) ≡ a
-    and_true true = refl
-    and_true false = refl
 
 pub gathering_step : (old mid one now : Diagram) (all cond both : Cond) (rules : List Ranked)
     (k : ℕ) (r : Ranked) → IsGathering old mid all rules k
