@@ -1,3 +1,4 @@
 pub mod Completeness
+pub mod Reducing
 pub mod Soundness
 pub mod Truth

@@ -2,7 +2,7 @@
 #![tactic(auto)]
 
 mod constant;
-mod evaluate;
+mod expression;
 mod fault;
 mod frame;
 mod machine;
@@ -10,7 +10,7 @@ mod reduce;
 mod symbol;
 mod values;
 
-pub use evaluate::evaluate;
+pub use expression::evaluate;
 pub use fault::IfFault;
 
 #[cfg(test)]

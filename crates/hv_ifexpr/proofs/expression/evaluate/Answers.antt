@@ -1,5 +1,5 @@
 use Rattle.hv_ifexpr.proofs.Truth.{truth_ok, truth_only, truth_bad}
-use Rattle.hv_ifexpr.proofs.evaluate.evaluate.Goals as goal
+use Rattle.hv_ifexpr.proofs.expression.evaluate.Goals as goal
 
 pub returns-in-Ok-clause-ok : goal.returns-in-Ok-clause-ok
 returns-in-Ok-clause-ok c =
