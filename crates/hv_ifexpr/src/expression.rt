@@ -25,9 +25,9 @@ fn decide(value: Option<Operand>) -> Result<bool, IfFault>
     }
 }
 
-/// Whether the controlling expression of `#if` or `#elif` that these tokens are, after expansion and
-/// with each `defined` replaced by `1` or `0`, is true (ISO/IEC 9899:1999, 6.10.1). The answer is
-/// `Bad` exactly where they aren't such an expression, or are one without a value. Memory comes
+/// Whether the controlling expression of `#if` or `#elif` that these tokens are, after expansion
+/// and with each `defined` replaced by `1` or `0`, is true (ISO/IEC 9899:1999, 6.10.1). The answer
+/// is `Bad` exactly where they aren't such an expression, or are one without a value. Memory comes
 /// from `alloc`.
 pub fn evaluate(alloc: Global, tokens: &[PpTok]) -> Result<bool, IfFault>
     ensures ok { IfOk result (IsTruth tokens.now) }

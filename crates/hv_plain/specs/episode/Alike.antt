@@ -4,9 +4,9 @@ use Rattle.std.specs.Prelude.{ℕ, zero, suc, ◌+◌, ◌≡◌, refl, Bool, tr
 use Rattle.std.specs.List.{list_all, list_any, starts_with}
 use Rattle.std.proofs.Common.{ap, sym, ◌∙◌}
 use Rattle.hv_base.specs.Ascii as ascii
-use Rattle.hv_base.specs.Ascii.{is_digit, is_identifier_byte, is_nondigit, is_line_space}
+use Rattle.hv_base.specs.Ascii.{is_digit, is_empty, is_identifier_byte, is_nondigit, is_line_space}
 use Rattle.hv_toks.specs.Cutting.{ends_line, line_len, closing_len, block_comment, found, longer, longest_token, other, token_at, prefix, whole_kind, whole_token}
-use Rattle.hv_toks.specs.Lexical.{longest, optional, is_identifier, is_exponent, is_sign, continues_number, begins_with_digit, is_number, is_empty, closes, is_quoted, is_char_constant, is_string_literal, is_punctuator}
+use Rattle.hv_toks.specs.Lexical.{longest, optional, is_identifier, is_exponent, is_sign, continues_number, begins_with_digit, is_number, closes, is_quoted, is_char_constant, is_string_literal, is_punctuator}
 use Rattle.hv_toks.specs.declared.prefix.LinePrefix.TheVariants.{Rest}
 use Rattle.hv_toks.specs.declared.prefix.Match.{Match}
 use Rattle.hv_toks.specs.declared.prefix.Prefix.{Prefix}
