@@ -1,0 +1,15 @@
+use Rattle.std.proofs.Common.{◌≡◌, ◌≤◌, length, take, drop}
+use Rattle.std.specs.Prelude.{pos}
+use Rattle.hv_mem.specs.Memory.{spliced}
+use Rattle.hv_mem.proofs.moves.move_up.Given as goal
+
+-- the bytes that are left to be moved lead to what all lead to
+abbrev pub invariant-loop-k : goal.invariant-loop-k
+invariant-loop-k l =
+    (l.k ≤ l.count)
+    × (length l.bytes ≡ length l.initial.bytes)
+    × (spliced (pos l.to) (take l.k (drop l.from l.bytes)) l.bytes
+    ≡ spliced (pos l.to) (take l.count (drop l.from l.initial.bytes)) l.initial.bytes)
+
+abbrev pub decreases-loop-k : goal.decreases-loop-k
+decreases-loop-k l = l.k

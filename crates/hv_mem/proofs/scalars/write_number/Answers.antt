@@ -1,0 +1,11 @@
+use Rattle.std.proofs.Common.{◌∙◌, arith}
+use Rattle.std.proofs.lemmas.List.{length-set}
+use Rattle.hv_mem.proofs.ScalarsLemmas.{number-step}
+use Rattle.hv_mem.proofs.scalars.write_number.Goals as goal
+
+pub loop-k-preserved : goal.loop-k-preserved
+loop-k-preserved c =
+    rw c.put.ensures (
+      length-set _ _ _ ∙ c.loop-k.invariant.0,
+      number-step c.args.offset c.loop-k.k c.args.count c.loop-k.rest c.loop-k.bytes _ (omega arith) (omega arith) c.loop-k.invariant.1,
+    )
