@@ -2,9 +2,10 @@
 ghost use Rattle.std.specs.Prelude.{◌≡◌, ◌⊎◌, All, IfOk};
 
 use super::*;
-use hv_base::{Config, List, Place, Span, Start, Text};
+use hv_base::{Config, List, Memory, Place, Span, Start, Text};
 use hv_cond::{Cond, Store};
 use std::alloc::{AllocError, Global};
+use std::rc::Rc;
 use std::test::Fail;
 
 fn start(alloc: Global, index: u64) -> Start {
@@ -201,4 +202,65 @@ fn character_constants_have_one_character(rt: HostRuntime) {
     for (text, expected) in table {
         assert_eq!(rt; read_char_constant(text.as_bytes()), expected, "at {text}");
     }
+}
+
+/// A function-like macro of one parameter, replaced by one token of this text and place.
+fn one_token_body(alloc: Global, param: &str, text: &str, start: u64) -> Result<Body, Memory> {
+    let mut params = List::new(alloc);
+    params.add(Text::from_slice(alloc, param.as_bytes())?)?;
+    let mut body = List::new(alloc);
+    body.add(PpTok {
+        kind: PpKind::Identifier,
+        span: Span {
+            file: 0,
+            start,
+            end: start,
+        },
+        text: Text::from_slice(alloc, text.as_bytes())?,
+        space: false,
+        first: false,
+    })?;
+    Ok(Body::Function {
+        params,
+        variadic: false,
+        body,
+    })
+}
+
+#[test]
+fn meanings_are_the_same_with_equal_places_and_bodies(rt: HostRuntime) -> Result<(), Fail> {
+    let alloc = rt.alloc();
+    let rows: [(u64, &str, &str, u64, bool); 5] = [
+        (1, "p", "x", 5, true),
+        (2, "p", "x", 5, false),
+        (1, "q", "x", 5, false),
+        (1, "p", "y", 5, false),
+        (1, "p", "x", 6, false),
+    ];
+    let place = Place {
+        stack: List::new(alloc),
+        file: 0,
+        offset: 1,
+    };
+    let first = Meaning::Defined {
+        place,
+        body: Rc::new(alloc, one_token_body(alloc, "p", "x", 5)?)?,
+    };
+    assert!(rt; first.copy(alloc)?.same(&first));
+    assert!(rt; !first.same(&Meaning::Undefined));
+    for (offset, param, text, start, is_same) in rows {
+        let place = Place {
+            stack: List::new(alloc),
+            file: 0,
+            offset,
+        };
+        let body = Rc::new(alloc, one_token_body(alloc, param, text, start)?)?;
+        let second = Meaning::Defined { place, body };
+        assert_eq!(rt;
+            first.same(&second),
+            is_same,
+            "at {offset} {param} {text} {start}"
+        );
+    }
+    Ok(())
 }

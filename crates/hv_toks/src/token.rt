@@ -1,5 +1,6 @@
 //! Preprocessing tokens.
 ghost use Rattle.std.specs.Prelude.{◌≡◌, IfOk};
+ghost use Rattle.std.specs.Bool.{Decides};
 
 use hv_base::{Memory, Span, Text};
 use std::alloc::Global;
@@ -43,5 +44,16 @@ impl PpTok {
             space: self.space,
             first: self.first,
         })
+    }
+
+    /// Whether two tokens are equal, their places included.
+    pub fn same(&self, other: &PpTok) -> bool
+        ensures exact { Decides result (self.now ≡ other.now) }
+    {
+        self.kind == other.kind
+            && self.span == other.span
+            && self.text == other.text
+            && self.space == other.space
+            && self.first == other.first
     }
 }
