@@ -2,6 +2,9 @@ pub mod Plain
 pub mod Erasure
 pub mod Kinds
 pub mod Layouts
+pub mod Offsets
+pub mod Settled
+pub mod Table
 pub mod Compatible
 pub mod Composite
 pub mod Knowledge

@@ -2,6 +2,7 @@
 #![tactic(auto)]
 
 mod tree;
+mod type_table;
 mod types;
 
 pub use tree::declaration::{
@@ -22,7 +23,8 @@ pub use tree::words::{
     AssignmentOperator, BinaryOperator, Constant, Selector, Step, StorageClass, StructOrUnion, Tag,
     TypeQualifier, UnaryOperator,
 };
-pub use types::{CType, CompoundType, IntKind, Layout, Member, Shape, Types};
+pub use type_table::Types;
+pub use types::{CType, CompoundType, IntKind, Layout, Member, Shape};
 
 /// A metaproduct: a program that begins with the declarations of its option variables.
 pub type Meta = Program;

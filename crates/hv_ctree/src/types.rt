@@ -72,12 +72,8 @@ pub struct CompoundType {
     pub is_union: bool,
     pub tag: Option<Text>,
     pub members: Option<List<Member>>,
-}
-
-/// The structure and union types of a program; a `Compound` is known by its index here.
-#[derive(Debug, Drop)]
-pub struct Types {
-    pub compounds: List<CompoundType>,
+    /// What an object of it takes in memory, kept from when its members became known.
+    pub layout: Option<Layout>,
 }
 
 /// What an object of a type takes in memory, in bytes.

@@ -26,7 +26,8 @@ lengths_agree _ _ = true
 -- in both or in neither
 abbrev mutual
   pub alike : PlainType → PlainType → Bool
-  alike (plain constant shape) (plain constant' shape') = same_truth constant constant' && shapes_alike shape shape'
+  alike (plain constant shape) (plain constant' shape') =
+      same_truth constant constant' && shapes_alike shape shape'
 
   -- the same without the qualifiers
   pub shapes_alike : PlainShape → PlainShape → Bool

@@ -8,9 +8,11 @@ abbrev pub known_length : Option ℕ → Option ℕ → Option ℕ
 known_length (Some m) n = Some m
 known_length None n = n
 
+-- the composite of two types, of their shapes, and of their parameters
 abbrev mutual
   pub composite : PlainType → PlainType → PlainType
-  composite (plain constant shape) (plain constant' shape') = plain constant (composite_shape shape shape')
+  composite (plain constant shape) (plain constant' shape') =
+      plain constant (composite_shape shape shape')
 
   pub composite_shape : PlainShape → PlainShape → PlainShape
   composite_shape (pointer t) (pointer u) = pointer (composite t u)
@@ -21,6 +23,8 @@ abbrev mutual
 
   -- parameters one by one, each without its qualifier; compatible functions have as many
   pub composite_parameters : Parameters → Parameters → Parameters
-  composite_parameters (parameter (plain constant shape) ts) (parameter (plain constant' shape') us) =
-      parameter (plain false (composite_shape shape shape')) (composite_parameters ts us)
+  composite_parameters (parameter (plain constant shape) ts)
+      (parameter (plain constant' shape') us) =
+      parameter (plain false (composite_shape shape shape'))
+      (composite_parameters ts us)
   composite_parameters ps us = no_parameter

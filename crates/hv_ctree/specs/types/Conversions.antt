@@ -41,7 +41,9 @@ has kind bits =
 -- values
 abbrev pub extended : IntKind → ℕ → ℕ
 extended kind remainder =
-    if nat_lt remainder (above_values kind) then remainder else remainder + (2 ^ 64 - value_count kind)
+    if nat_lt remainder (above_values kind)
+    then remainder
+    else remainder + (2 ^ 64 - value_count kind)
 
 -- a value converted to an integer type (6.3.1.2, 6.3.1.3): to `_Bool` by comparison with 0, else by
 -- wrapping

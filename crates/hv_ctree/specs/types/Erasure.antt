@@ -8,8 +8,8 @@ use Rattle.hv_ctree.specs.declared.types.Shape.TheVariants.{Void, Integer, Enume
 use Rattle.hv_ctree.specs.declared.types.Shape.TheBlock.{Row_of-CType, end_of-CType, more_of-CType}
 use Rattle.hv_ctree.specs.declared.types.Member.{Member}
 use Rattle.hv_ctree.specs.declared.types.CompoundType.{CompoundType}
-use Rattle.hv_ctree.specs.declared.types.Types.{Types}
 
+-- the plain shape of a declared one, and the plain parameters
 abbrev mutual
   -- the plain shape of a declared one; each pointer of the program stands before the type that it
   -- leads to
@@ -26,7 +26,8 @@ abbrev mutual
   -- the types of a function's parameters, as the program holds them
   pub row_of : {m : _} → Row_of-CType m → Parameters
   row_of end_of-CType = no_parameter
-  row_of (more_of-CType constant shape rest) = parameter (plain constant (shape_of shape)) (row_of rest)
+  row_of (more_of-CType constant shape rest) =
+      parameter (plain constant (shape_of shape)) (row_of rest)
 
 -- the plain type of a declared one
 abbrev pub type_of : CType → PlainType
@@ -43,8 +44,5 @@ member_of m = record { name = m.name; type = type_of m.of }
 
 -- the plain structure or union of a declared one
 abbrev pub compound_of : CompoundType → PlainCompound
-compound_of c = record { is_union = c.is_union; tag = c.tag; members = option_map (map member_of) c.members }
-
--- the structures and unions of a program, by their numbers
-abbrev pub compounds_of : Types → List PlainCompound
-compounds_of types = map compound_of types.compounds
+compound_of c =
+    record { is_union = c.is_union; tag = c.tag; members = option_map (map member_of) c.members }

@@ -113,7 +113,9 @@ represents wide narrow =
 -- what an integer type is promoted to (6.3.1.1 paragraph 2)
 abbrev pub promoted : IntKind → IntKind
 promoted kind =
-    if nat_le (rank kind) (rank Int) then (if represents Int kind then Int else UnsignedInt) else kind
+    if nat_le (rank kind) (rank Int)
+    then (if represents Int kind then Int else UnsignedInt)
+    else kind
 
 -- the integer type of a constant
 abbrev pub kind_of_constant : IntType → IntKind

@@ -17,7 +17,8 @@ abbrev mutual
   pub keeps_shape : PlainShape → PlainShape → Bool
   keeps_shape (pointer t) (pointer u) = keeps t u
   keeps_shape (array t m) (array u n) = keeps_length m n && keeps t u
-  keeps_shape (function r ps variadic) (function q us variadic') = keeps r q && keeps_parameters ps us
+  keeps_shape (function r ps variadic) (function q us variadic') =
+      keeps r q && keeps_parameters ps us
   keeps_shape _ _ = true
 
   pub keeps_parameters : Parameters → Parameters → Bool

@@ -17,7 +17,9 @@ abbrev pub repeated : Option ℕ → Option Layout → Option Layout
 repeated None element = None
 repeated (Some count) None = None
 repeated (Some count) (Some element) =
-    if count == 0 then None else Some (record { size = count * element.size; align = element.align })
+    if count == 0
+    then None
+    else Some (record { size = count * element.size; align = element.align })
 
 -- the layout of a type, where structures and unions have the layouts given by their numbers
 abbrev mutual
@@ -42,12 +44,14 @@ rounded_up position align = position + (align - position % align) % align
 abbrev pub offsets_from : ℕ → List Layout → List ℕ
 offsets_from position [] = []
 offsets_from position (member ∷ members) =
-    let offset = rounded_up position member.align in offset ∷ offsets_from (offset + member.size) members
+    let offset = rounded_up position member.align in
+    offset ∷ offsets_from (offset + member.size) members
 
 -- where the last of such members ends
 abbrev pub end_from : ℕ → List Layout → ℕ
 end_from position [] = position
-end_from position (member ∷ members) = end_from (rounded_up position member.align + member.size) members
+end_from position (member ∷ members) =
+    end_from (rounded_up position member.align + member.size) members
 
 -- the largest alignment of members, which is that of the structure or union
 abbrev pub largest_align : List Layout → ℕ
@@ -82,14 +86,16 @@ member_layouts compounds (m ∷ ms) =
 -- the layout of a structure or union by those of the ones within it
 abbrev pub compound_layout_by : (ℕ → Option Layout) → PlainCompound → Option Layout
 compound_layout_by compounds c =
-    option_and_then (λ ms. option_and_then (laid_out c.is_union) (member_layouts compounds ms)) c.members
+    option_and_then (λ ms. option_and_then (laid_out c.is_union) (member_layouts compounds ms))
+    c.members
 
 -- the layout of the structure or union with a number, where at most `depth` of them stand within
 -- one another. Without a cycle no more can than there are
 abbrev pub compound_layout : List PlainCompound → ℕ → ℕ → Option Layout
 compound_layout compounds zero number = None
 compound_layout compounds (suc depth) number =
-    option_and_then (compound_layout_by (compound_layout compounds depth)) (slice_get compounds number)
+    option_and_then (compound_layout_by (compound_layout compounds depth))
+    (slice_get compounds number)
 
 -- the layout of a type; `None` where it is incomplete or a function
 abbrev pub layout : List PlainCompound → PlainType → Option Layout
