@@ -1,9 +1,8 @@
 -- A type is compatible with itself, and compatibility is symmetric.
-use Rattle.std.proofs.Common.{◌≡◌, ℕ, Bool, true, false, ◌&&◌, not, Option, None, Some, nat_eq, refl, ap, sym, ◌∙◌, inl, inr}
+use Rattle.std.proofs.Common.{◌≡◌, ℕ, Bool, true, false, ◌&&◌, Option, None, Some, nat_eq, refl, ap, sym, ◌∙◌, inl, inr}
 use Rattle.std.proofs.lemmas.Bool.Decides.{eqb_tells}
 use Rattle.hv_base.proofs.Booleans.{and_both}
-use Rattle.hv_ctree.specs.declared.types.IntKind.{IntKind}
-use Rattle.hv_ctree.specs.types.Kinds.{same_kind, kind_number}
+use Rattle.hv_ctree.specs.types.Kinds.{kind_number}
 use Rattle.hv_ctree.specs.types.Plain.{PlainType, plain, PlainShape, void, integer, enumeration, compound, pointer, array, function, Parameters, no_parameter, parameter}
 use Rattle.hv_ctree.specs.types.Compatible.{same_truth, same_length, lengths_agree, alike, shapes_alike, parameters_alike, shapes_compatible, compatible}
 

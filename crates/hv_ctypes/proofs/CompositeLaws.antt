@@ -1,11 +1,12 @@
--- A composite is compatible with both types, and keeps the lengths that either knows.
-use Rattle.std.proofs.Common.{◌≡◌, ℕ, Bool, true, false, ◌&&◌, Option, None, Some, refl, ap, sym, ◌∙◌}
+-- A composite is compatible with both types, keeps the lengths that either knows, and is as large.
+use Rattle.std.proofs.Common.{◌≡◌, ℕ, ◌+◌, true, Option, None, Some, refl, ap, ◌∙◌}
 use Rattle.hv_base.proofs.Booleans.{and_both, and_left, and_right}
 use Rattle.hv_ctree.specs.types.Plain.{PlainType, plain, PlainShape, void, integer, enumeration, compound, pointer, array, function, Parameters, no_parameter, parameter}
-use Rattle.hv_ctree.specs.types.Compatible.{same_truth, same_length, lengths_agree, alike, shapes_alike, parameters_alike, shapes_compatible, compatible}
+use Rattle.hv_ctree.specs.types.Compatible.{same_length, lengths_agree, alike, shapes_alike, parameters_alike, shapes_compatible, compatible}
 use Rattle.hv_ctree.specs.types.Composite.{composite, composite_shape, composite_parameters, known_length}
 use Rattle.hv_ctree.specs.types.Knowledge.{keeps, keeps_shape, keeps_parameters, keeps_length}
-use Rattle.hv_ctypes.proofs.CompatibleLaws.{eqb_same, same_truth_itself, same_length_itself, shapes_alike_itself}
+use Rattle.hv_ctypes.specs.Written.{written, written_within, written_all}
+use Rattle.hv_ctypes.proofs.CompatibleLaws.{eqb_same, same_truth_itself, shapes_alike_itself}
 
 ------ compatible with the first
 
@@ -211,3 +212,41 @@ keeps_compatible _ _ h = refl
 pub keeps_second : (t u : PlainType) → compatible t u ≡ true → keeps (composite t u) u ≡ true
 keeps_second (plain constant shape) (plain constant' shape') h =
     keeps_compatible shape shape' (and_right _ _ h)
+
+------ as large
+
+both_sums : (a b c d : ℕ) → a ≡ b → c ≡ d → a + c ≡ b + d
+both_sums a b c d e f = ap (λ x. x + c) e ∙ ap (λ x. b + x) f
+
+mutual
+  written_alike : (t u : PlainType) → alike t u ≡ true → written (composite t u) ≡ written t
+  written_alike (plain constant shape) (plain constant' shape') h =
+      ap (λ n. 1 + n) (written_shapes shape shape' (and_right _ _ h))
+
+  written_shapes : (s u : PlainShape) → shapes_alike s u ≡ true →
+      written_within (composite_shape s u) ≡ written_within s
+  written_shapes (pointer t) (pointer u) h = written_alike t u h
+  written_shapes (array t m) (array u n) h = written_alike t u (and_right _ _ h)
+  written_shapes (function r ps variadic) (function q us variadic') h =
+      both_sums _ _ _ _ (written_alike r q (and_left _ _ (and_left _ _ h))) (written_parameters ps us (and_right _ _ h))
+  written_shapes _ _ h = refl
+
+  written_parameters : (ps us : Parameters) → parameters_alike ps us ≡ true →
+      written_all (composite_parameters ps us) ≡ written_all ps
+  written_parameters (parameter (plain constant shape) ps) (parameter (plain constant' shape') us) h =
+      both_sums _ _ _ _ (ap (λ n. 1 + n) (written_shapes shape shape' (and_left _ _ h)))
+      (written_parameters ps us (and_right _ _ h))
+  written_parameters no_parameter no_parameter h = refl
+  written_parameters no_parameter (parameter u us) h = refl
+  written_parameters (parameter (plain constant shape) ps) no_parameter h = cc
+
+written_compatible : (s u : PlainShape) → shapes_compatible s u ≡ true →
+    written_within (composite_shape s u) ≡ written_within s
+written_compatible (array t m) (array u n) h = written_alike t u (and_right _ _ h)
+written_compatible (pointer t) (pointer u) h = written_alike t u h
+written_compatible (function r ps v) (function q us w) h = written_shapes (function r ps v) (function q us w) h
+written_compatible _ _ h = refl
+
+pub written_composite : (t u : PlainType) → compatible t u ≡ true → written (composite t u) ≡ written t
+written_composite (plain constant shape) (plain constant' shape') h =
+    ap (λ n. 1 + n) (written_compatible shape shape' (and_right _ _ h))

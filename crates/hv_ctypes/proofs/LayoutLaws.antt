@@ -1,5 +1,5 @@
 -- A layout's alignment is 1, 2, 4 or 8, and its size is a multiple of it.
-use Rattle.std.proofs.Common.{◌≡◌, ℕ, zero, suc, ◌+◌, ◌-◌, ◌*◌, ◌/◌, ◌%◌, max, Bool, true, false, cond, Option, None, Some, List, [], ◌∷◌, length, nat_eq, refl, sym, ◌∙◌, IsTrue, inl, inr, arith, subst}
+use Rattle.std.proofs.Common.{◌≡◌, ℕ, zero, suc, ◌+◌, ◌*◌, ◌/◌, ◌%◌, max, Bool, true, false, cond, Option, None, Some, List, [], ◌∷◌, length, nat_eq, refl, sym, ◌∙◌, IsTrue, inl, inr, arith, subst}
 use Rattle.std.specs.Option.{option_and_then, option_map}
 use Rattle.std.specs.Prelude.{slice_get, IfSome}
 use Rattle.std.proofs.lemmas.Bool.Decides.{eqb_tells, leb_tells}
@@ -9,7 +9,7 @@ use Rattle.hv_ctree.specs.declared.types.IntKind.{IntKind}
 use Rattle.hv_ctree.specs.declared.types.IntKind.TheVariants.{Boolean, Char, SignedChar, UnsignedChar, Short, UnsignedShort, Int, UnsignedInt, Long, UnsignedLong, LongLong, UnsignedLongLong}
 use Rattle.hv_ctree.specs.types.Kinds.{kind_size}
 use Rattle.hv_ctree.specs.types.Plain.{PlainType, plain, PlainShape, void, integer, enumeration, compound, pointer, array, function, PlainMember, PlainCompound}
-use Rattle.hv_ctree.specs.types.Layouts.{layout, within_limit, scalar, repeated, layout_by, shape_layout_by, rounded_up, laid_out, member_layouts, compound_layout_by, compound_layout, largest_align, taken, is_alignment}
+use Rattle.hv_ctree.specs.types.Layouts.{layout, within_limit, repeated, layout_by, shape_layout_by, rounded_up, laid_out, member_layouts, compound_layout_by, compound_layout, largest_align, taken, is_alignment}
 
 -- how often the alignment goes into the size
 pub data IsWhole : ℕ → ℕ → Type 0 where
@@ -18,7 +18,7 @@ pub data IsWhole : ℕ → ℕ → Type 0 where
   by_4 : (k : ℕ) → IsWhole (k * 4) 4
   by_8 : (k : ℕ) → IsWhole (k * 8) 8
 
-no_remainder : (size align : ℕ) → IsWhole size align → size % align ≡ 0
+pub no_remainder : (size align : ℕ) → IsWhole size align → size % align ≡ 0
 no_remainder _ _ (by_1 k) = omega arith
 no_remainder _ _ (by_2 k) = omega arith
 no_remainder _ _ (by_4 k) = omega arith
@@ -29,11 +29,11 @@ abbrev Each : Option Layout → Type 0
 Each None = Unit {0}
 Each (Some l) = IsWhole l.size l.align
 
-abbrev All : List Layout → Type 0
+abbrev pub All : List Layout → Type 0
 All [] = Unit {0}
 All (l ∷ ls) = IsWhole l.size l.align × All ls
 
-abbrev EachList : Option (List Layout) → Type 0
+abbrev pub EachList : Option (List Layout) → Type 0
 EachList None = Unit {0}
 EachList (Some ls) = All ls
 
@@ -71,13 +71,13 @@ repeated_whole (Some n) (Some l) w = some_whole n l (nat_eq n 0) w
 
 ------ structures and unions
 
-data IsAlign : ℕ → Type 0 where
+pub data IsAlign : ℕ → Type 0 where
   is_1 : IsAlign 1
   is_2 : IsAlign 2
   is_4 : IsAlign 4
   is_8 : IsAlign 8
 
-align_whole : (size align : ℕ) → IsWhole size align → IsAlign align
+pub align_whole : (size align : ℕ) → IsWhole size align → IsAlign align
 align_whole _ _ (by_1 k) = is_1
 align_whole _ _ (by_2 k) = is_2
 align_whole _ _ (by_4 k) = is_4
@@ -105,7 +105,7 @@ largest_whole : (ls : List Layout) → All ls → IsAlign (largest_align ls)
 largest_whole [] w = is_1
 largest_whole (l ∷ ls) w = max_align l.align (largest_align ls) (align_whole l.size l.align w.0) (largest_whole ls w.1)
 
-rounded_whole : (p a : ℕ) → IsAlign a → IsWhole (rounded_up p a) a
+pub rounded_whole : (p a : ℕ) → IsAlign a → IsWhole (rounded_up p a) a
 rounded_whole p _ is_1 = by_1 (rounded_up p 1)
 rounded_whole p _ is_2 =
     let e : (p + 1) / 2 * 2 ≡ rounded_up p 2 = omega arith in subst (λ s. IsWhole s 2) e (by_2 ((p + 1) / 2))
@@ -143,7 +143,7 @@ module _ (of : ℕ → Option Layout) (each : (n : ℕ) → Each (of n)) where
     shape_whole (array t count) = repeated_whole count (layout_by of t) (type_whole t)
     shape_whole (function result parameters variadic) = tt
 
-  members_whole : (ms : List PlainMember) → EachList (member_layouts of ms)
+  pub members_whole : (ms : List PlainMember) → EachList (member_layouts of ms)
   members_whole [] = tt
   members_whole (m ∷ ms) = first_whole (layout_by of m.type) (member_layouts of ms) (type_whole m.type) (members_whole ms)
 
@@ -156,7 +156,7 @@ module _ (of : ℕ → Option Layout) (each : (n : ℕ) → Each (of n)) where
   found_whole None = tt
   found_whole (Some c) = listed_whole c.is_union c.members
 
-compound_whole : (compounds : List PlainCompound) (depth number : ℕ) → Each (compound_layout compounds depth number)
+pub compound_whole : (compounds : List PlainCompound) (depth number : ℕ) → Each (compound_layout compounds depth number)
 compound_whole compounds zero number = tt
 compound_whole compounds (suc depth) number =
     found_whole (compound_layout compounds depth) (compound_whole compounds depth) (slice_get compounds number)
@@ -175,6 +175,26 @@ pub layout_whole : (compounds : List PlainCompound) (t : PlainType) →
 layout_whole compounds t =
     limited (layout compounds t)
     (type_whole (compound_layout compounds (length compounds)) (compound_whole compounds (length compounds)) t)
+
+------ kept_layout
+
+align_true : (size align : ℕ) → IsWhole size align → IsTrue (is_alignment align)
+align_true _ _ (by_1 k) = refl
+align_true _ _ (by_2 k) = refl
+align_true _ _ (by_4 k) = refl
+align_true _ _ (by_8 k) = refl
+
+limited_align : (o : Option Layout) → Each o → IfSome (within_limit o) (λ l. IsTrue (is_alignment l.align))
+limited_align None w = tt
+limited_align (Some l) w =
+    elim (leb_tells l.size MOST_OBJECT_BYTES) [
+      | inl (is, h) ↦ rw is (align_true l.size l.align w)
+      | inr (isnt, h) ↦ rw isnt tt
+    ]
+
+pub kept_aligned : (compounds : List PlainCompound) (number : ℕ) →
+    IfSome (within_limit (compound_layout compounds (length compounds) number)) (λ l. IsTrue (is_alignment l.align))
+kept_aligned compounds number = limited_align _ (compound_whole compounds (length compounds) number)
 
 ------ next_offset
 

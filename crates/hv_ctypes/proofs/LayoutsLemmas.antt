@@ -1,10 +1,8 @@
 -- Layouts within the limit, as the walk over types computes them.
-use Rattle.std.proofs.Common.{◌≡◌, ℕ, zero, suc, ◌+◌, ◌*◌, ◌<◌, ◌≤◌, max, Bool, true, false, IsTrue, cond, Option, None, Some, List, [], ◌∷◌, length, get_or, drop, drop-cons, add-one, map, nat_eq, refl, ap, sym, ◌∙◌, arith, inl, inr, ◌⊎◌}
-use Rattle.std.specs.Prelude.{nat_le}
+use Rattle.std.proofs.Common.{◌≡◌, ℕ, zero, suc, ◌+◌, ◌*◌, ◌<◌, ◌≤◌, max, Bool, true, false, cond, Option, None, Some, List, [], ◌∷◌, length, get_or, drop, drop-cons, add-one, map, refl, ap, sym, ◌∙◌, arith, inl, inr, ◌⊎◌}
 use Rattle.std.specs.Option.{option_and_then, option_map}
 use Rattle.std.proofs.lemmas.Bool.Decides.{leb_tells, eqb_tells}
 use Rattle.std.proofs.lemmas.Bool.{lt-leb}
-use Rattle.std.proofs.Math.Nat.{mul-le-mul_left}
 use Rattle.hv_ctree.specs.declared.types.Layout.{Layout}
 use Rattle.hv_ctree.specs.declared.types.Member.{Member}
 use Rattle.hv_ctree.specs.types.Erasure.{type_of, member_of}

@@ -1,6 +1,6 @@
 -- Lists of parameters, walked from the first to the last.
-use Rattle.std.proofs.Common.{◌≡◌, min, arith, ◌≤◌, ◌⊎◌, inl, inr, ℕ, suc, ◌+◌, ◌<◌, Bool, true, false, ◌&&◌, List, [], ◌∷◌, length, get_or, drop, drop-cons, add-one, refl, ap, sym, ◌∙◌}
-use Rattle.hv_ctree.specs.types.Erasure.{type_of, shape_of, parameters_of}
+use Rattle.std.proofs.Common.{◌≡◌, min, arith, ◌≤◌, ◌⊎◌, inl, inr, ℕ, suc, ◌+◌, ◌<◌, false, ◌&&◌, List, [], ◌∷◌, length, get_or, drop, drop-cons, add-one, refl, ap, ◌∙◌}
+use Rattle.hv_ctree.specs.types.Erasure.{shape_of, parameters_of}
 use Rattle.hv_ctree.specs.types.Compatible.{shapes_alike, parameters_alike}
 use Rattle.hv_ctree.specs.declared.types.CType.{CType}
 use Rattle.hv_base.proofs.Booleans.{and_false}

@@ -1,23 +1,38 @@
-ghost use Rattle.std.specs.Prelude.{◌≡◌, ◌+◌, ◌*◌, ◌%◌, ◌<◌, ◌≤◌, ◌^◌, IsTrue, IfSome, IsSomeAnd, max, map, Some};
-ghost use Rattle.std.specs.Option.{option_and_then};
+ghost use Rattle.std.specs.Prelude.{◌≡◌, ◌%◌, ◌≤◌, IsTrue, IfSome, IsSomeAnd};
 ghost use Rattle.hv_base.specs.declared.limits.TheConstants.{MOST_OBJECT_BYTES};
-ghost use Rattle.hv_ctree.specs.types.Erasure.{type_of, member_of, compounds_of};
+ghost use Rattle.hv_ctree.specs.types.Erasure.{type_of};
+ghost use Rattle.hv_ctree.specs.types.Table.{compounds_of};
 ghost use Rattle.hv_ctree.specs.types.Kinds as kinds;
 ghost use Rattle.hv_ctree.specs.types.Layouts as layouts;
-ghost use Rattle.hv_ctree.specs.types.Layouts.{within_limit, layout_by, laid_out, member_layouts, is_alignment};
+ghost use Rattle.hv_ctree.specs.types.Layouts.{within_limit, layout_by, is_alignment};
+ghost use Rattle.hv_ctypes.specs.Compounds.{layouts_in};
 ghost use Rattle.hv_ctypes.specs.working.Walks as walks;
 
-use hv_base::{List, MOST_OBJECT_BYTES};
-use hv_ctree::{CType, IntKind, Layout, Member, Shape, Types};
+use hv_base::MOST_OBJECT_BYTES;
+use hv_ctree::{CType, IntKind, Layout, Shape, Types};
 
 /// The size and the alignment of a type (ISO/IEC 9899:1999, 6.7.2.1), or `None` where it is
-/// incomplete, a function, or larger than the limit on objects.
+/// incomplete, a function, or larger than the limit on objects. It takes a step for each dimension
+/// of an array, and one more: the layout of a structure or union is looked up.
 pub fn layout(types: &Types, t: &CType) -> Option<Layout>
     ensures value { result ≡ within_limit (layouts.layout (compounds_of types.now) (type_of t.now)) }
     ensures whole { IfSome result (λ l. l.size % l.align ≡ 0) }
     ensures aligned { IfSome result (λ l. IsTrue (is_alignment l.align)) }
 {
-    type_layout(types, t, types.compounds.len())
+    let of = match innermost(t) {
+        Some(number) => kept_layout(types, number),
+        None => None,
+    };
+    layout_around(t, &of)
+}
+
+// The layout of the structure or union with this number.
+pub(crate) fn kept_layout(types: &Types, number: u64) -> Option<Layout>
+    ensures value { result ≡ within_limit (layouts_in (compounds_of types.now) number) }
+    ensures aligned { IfSome result (λ l. IsTrue (is_alignment l.align)) }
+{
+    let compound = types.compounds.get(number as usize)?;
+    compound.layout
 }
 
 /// The bytes of a complete type.
@@ -42,119 +57,6 @@ pub fn align_of(types: &Types, t: &CType) -> u64
         Some(layout) => layout.align,
         None => unreachable!(),
     }
-}
-
-// The layout of a type in which at most `depth` structures and unions stand within one another.
-#[cycle(layout)]
-fn type_layout(types: &Types, t: &CType, depth: usize) -> Option<Layout>
-    ensures value { result
-        ≡ within_limit
-        (layout_by (layouts.compound_layout (compounds_of types.now) depth) (type_of t.now)) }
-    ensures aligned { IfSome result (λ l. IsTrue (is_alignment l.align)) }
-{
-    let of = match innermost(t) {
-        Some(number) => compound_layout(types, number, depth),
-        None => None,
-    };
-    layout_around(t, &of)
-}
-
-// The layout of the structure or union with this number.
-#[cycle(layout)]
-fn compound_layout(types: &Types, number: u64, depth: usize) -> Option<Layout>
-    ensures value { result ≡ within_limit (layouts.compound_layout (compounds_of types.now) depth number) }
-    ensures aligned { IfSome result (λ l. IsTrue (is_alignment l.align)) }
-{
-    if depth == 0 {
-        return None;
-    }
-    let compound = types.compounds.get(number as usize)?;
-    let members = compound.members.as_ref()?;
-    members_layout(types, compound.is_union, members, depth - 1)
-}
-
-// The layout of a structure or union with these members.
-#[cycle(layout)]
-fn members_layout(
-    types: &Types,
-    is_union: bool,
-    members: &List<Member>,
-    depth: usize,
-) -> Option<Layout>
-    ensures value { result
-        ≡ within_limit
-        (option_and_then (laid_out is_union)
-        (member_layouts (layouts.compound_layout (compounds_of types.now) depth)
-        (map member_of members.now))) }
-    ensures aligned { IfSome result (λ l. IsTrue (is_alignment l.align)) }
-{
-    if members.len() == 0 {
-        return None;
-    }
-    let mut taken = 0;
-    let mut align = 1;
-    for member in members.as_slice() {
-        let layout = type_layout(types, &member.of, depth)?;
-        taken = taken_after(is_union, taken, layout);
-        if taken > MOST_OBJECT_BYTES {
-            return None;
-        }
-        align = larger_alignment(align, layout.align);
-    }
-    padded(taken, align)
-}
-
-// The bytes that members take once one more stands after them, or over them in a union.
-fn taken_after(is_union: bool, taken: u64, member: Layout) -> u64
-    requires taken { taken ≤ MOST_OBJECT_BYTES }
-    requires size { member.size ≤ MOST_OBJECT_BYTES }
-    requires align { IsTrue (is_alignment member.align) }
-    ensures { result ≡ walks.taken_after is_union taken member }
-{
-    if is_union {
-        taken.max(member.size)
-    } else {
-        next_offset(taken, member.align) + member.size
-    }
-}
-
-fn larger_alignment(a: u64, b: u64) -> u64
-    requires left { IsTrue (is_alignment a) }
-    requires right { IsTrue (is_alignment b) }
-    ensures value { result ≡ max a b }
-    ensures aligned { IsTrue (is_alignment result) }
-{
-    a.max(b)
-}
-
-// The layout of a structure or union whose members take these bytes.
-fn padded(taken: u64, align: u64) -> Option<Layout>
-    requires taken { taken ≤ MOST_OBJECT_BYTES }
-    requires align { IsTrue (is_alignment align) }
-    ensures value { result
-        ≡ within_limit (Some (record { size = layouts.rounded_up taken align; align = align })) }
-    ensures aligned { IfSome result (λ l. IsTrue (is_alignment l.align)) }
-{
-    let size = next_offset(taken, align);
-    if size > MOST_OBJECT_BYTES {
-        None
-    } else {
-        Some(Layout { size, align })
-    }
-}
-
-/// Where a member with this alignment begins that stands after `position` bytes of its structure:
-/// at the least multiple of its alignment from there on (ISO/IEC 9899:1999, 6.7.2.1).
-pub fn next_offset(position: u64, align: u64) -> u64
-    requires position { position ≤ MOST_OBJECT_BYTES }
-    requires align { IsTrue (is_alignment align) }
-    ensures value { result ≡ layouts.rounded_up position align }
-    ensures after { position ≤ result }
-    ensures multiple { result % align ≡ 0 }
-    ensures within { result < position + align }
-    ensures small { align ≤ 8 }
-{
-    position + (align - position % align) % align
 }
 
 // The structure or union that a type is, or that the elements of an array are, through all its

@@ -3,6 +3,7 @@ ghost use Rattle.hv_ctree.specs.types.Erasure.{type_of, shape_of, parameters_of}
 ghost use Rattle.hv_ctree.specs.types.Compatible as compatibility;
 ghost use Rattle.hv_ctree.specs.types.Composite as types;
 ghost use Rattle.hv_ctree.specs.types.Knowledge.{keeps};
+ghost use Rattle.hv_ctypes.specs.Written.{written};
 
 use hv_base::{List, Memory};
 use hv_ctree::{CType, Shape, Types};
@@ -18,6 +19,7 @@ pub fn composite(alloc: Global, _types: &Types, a: &CType, b: &CType) -> Result<
     ensures with_second { IfOk result (λ t. IsTrue (compatibility.compatible (type_of t) (type_of b.now))) }
     ensures keeps_first { IfOk result (λ t. IsTrue (keeps (type_of t) (type_of a.now))) }
     ensures keeps_second { IfOk result (λ t. IsTrue (keeps (type_of t) (type_of b.now))) }
+    ensures as_large { IfOk result (λ t. written (type_of t) ≡ written (type_of a.now)) }
 {
     let merged = merged(alloc, a, b)?;
     Ok(merged)

@@ -1,6 +1,6 @@
 -- Layouts as the walk over types gathers them.
 use Rattle.std.specs.Prelude.{ℕ, ◌+◌, max, Bool, if◌then◌else◌, Option, None, Some, List, [], ◌∷◌}
-use Rattle.std.specs.Option.{option_and_then}
+use Rattle.std.specs.Option.{option_and_then, option_map}
 use Rattle.hv_ctree.specs.declared.types.Layout.{Layout}
 use Rattle.hv_ctree.specs.types.Plain.{PlainType, plain, PlainShape, void, integer, enumeration, compound, pointer, array, function, PlainMember}
 use Rattle.hv_ctree.specs.types.Layouts.{rounded_up, layout_by}
@@ -32,4 +32,25 @@ laid_from compounds is_union taken align [] = Some (record { size = rounded_up t
 laid_from compounds is_union taken align (m ∷ ms) =
     option_and_then
     (λ l. laid_from compounds is_union (taken_after is_union taken l) (max align l.align) ms)
+    (layout_by compounds m.type)
+
+-- the bytes that members take with what stands before them, where each has a layout
+abbrev pub bytes_from : (ℕ → Option Layout) → Bool → ℕ → List PlainMember → Option ℕ
+bytes_from compounds is_union taken [] = Some taken
+bytes_from compounds is_union taken (m ∷ ms) =
+    option_and_then (λ l. bytes_from compounds is_union (taken_after is_union taken l) ms)
+    (layout_by compounds m.type)
+
+-- where a member stands after members that take these bytes: in a union over them
+abbrev pub offset_after : Bool → ℕ → Layout → ℕ
+offset_after is_union taken member = if is_union then 0 else rounded_up taken member.align
+
+-- the offsets of members that stand after others that take these bytes, where each has a layout
+abbrev pub placed_from : (ℕ → Option Layout) → Bool → ℕ → List PlainMember → Option (List ℕ)
+placed_from compounds is_union taken [] = Some []
+placed_from compounds is_union taken (m ∷ ms) =
+    option_and_then
+    (λ l.
+    option_map (λ others. offset_after is_union taken l ∷ others)
+    (placed_from compounds is_union (taken_after is_union taken l) ms))
     (layout_by compounds m.type)

@@ -1,4 +1,4 @@
-use Rattle.std.proofs.Common.{◌≡◌, length, drop}
+use Rattle.std.proofs.Common.{◌≡◌, drop}
 use Rattle.hv_ctree.specs.types.Erasure.{parameters_of}
 use Rattle.hv_ctree.specs.types.Compatible as types
 use Rattle.hv_ctypes.proofs.compatibility.+alike.Given as goal

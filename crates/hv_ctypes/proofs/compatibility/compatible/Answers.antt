@@ -1,5 +1,4 @@
-use Rattle.std.proofs.Common.{◌≡◌, true, sym, ap, ◌∙◌}
-use Rattle.std.specs.Prelude.{IsTrue}
+use Rattle.std.proofs.Common.{sym, ap, ◌∙◌}
 use Rattle.hv_ctree.specs.types.Erasure.{type_of}
 use Rattle.hv_ctree.specs.types.Compatible as types
 use Rattle.hv_ctypes.proofs.CompatibleLaws.{compatible_itself, compatible_swap}

@@ -1,6 +1,6 @@
 use Rattle.std.proofs.Common.{◌≡◌, ap, sym, ◌∙◌, rules}
-use Rattle.hv_ctree.specs.types.Erasure.{type_of, shape_of}
-use Rattle.hv_ctree.specs.types.Layouts.{within_limit, layout_by, shape_layout_by, repeated}
+use Rattle.hv_ctree.specs.types.Erasure.{shape_of}
+use Rattle.hv_ctree.specs.types.Layouts.{within_limit, shape_layout_by, repeated}
 use Rattle.hv_ctypes.proofs.LayoutsLemmas.{repeated_within}
 use Rattle.hv_ctypes.proofs.layouts.+layout_around.Goals as goal
 

@@ -1,17 +1,31 @@
-use Rattle.std.proofs.Common.{◌≡◌, length, ap, sym, ◌∙◌, rules}
-use Rattle.hv_base.proofs.Lists.{length-map}
-use Rattle.hv_ctree.specs.types.Erasure.{type_of, compound_of, compounds_of}
+use Rattle.std.proofs.Common.{◌≡◌, ◌∙◌, rules}
+use Rattle.std.specs.Option.{option_and_then}
+use Rattle.hv_ctree.specs.types.Erasure.{type_of}
+use Rattle.hv_ctree.specs.types.Table.{compounds_of}
 use Rattle.hv_ctree.specs.types.Layouts as layouts
+use Rattle.hv_ctypes.specs.Compounds.{layouts_in}
+use Rattle.hv_ctypes.specs.working.Walks.{innermost}
+use Rattle.hv_ctypes.proofs.LayoutsLemmas.{around_all}
 use Rattle.hv_ctypes.proofs.LayoutLaws.{layout_whole}
 use Rattle.hv_ctypes.proofs.layouts.layout.Goals as goal
+use Rattle.hv_ctypes.proofs.layouts.layout.Goals.{in-Some, in-None}
+
+pub returns-clause-value : goal.returns-clause-value
+returns-clause-value c =
+    let of = layouts_in (compounds_of c.args.types.now) in
+    let plain_type = type_of c.args.t.now in
+    let e : c.match-innermost.of ≡ layouts.within_limit (option_and_then of (innermost plain_type)) =
+    elim c.match-innermost.branch [ in-Some w ↦ search rules | in-None w ↦ search rules ] in
+    let r : c.layout_around.result ≡ layouts.within_limit (layouts.layout_by (λ _. c.match-innermost.of) plain_type) =
+    search rules in
+    r ∙ around_all of plain_type c.match-innermost.of e
 
 pub returns-clause-whole : goal.returns-clause-whole
 returns-clause-whole c =
-    let compounds = compounds_of c.args.types.now in
-    let t = type_of c.args.t.now in
-    let count : c.len.result ≡ length compounds = c.len.ensures ∙ sym (length-map compound_of c.args.types.now.compounds) in
-    let e : c.type_layout.result
-    ≡ layouts.within_limit (layouts.layout_by (layouts.compound_layout compounds c.len.result) t) =
+    let of = layouts_in (compounds_of c.args.types.now) in
+    let plain_type = type_of c.args.t.now in
+    let e : c.match-innermost.of ≡ layouts.within_limit (option_and_then of (innermost plain_type)) =
+    elim c.match-innermost.branch [ in-Some w ↦ search rules | in-None w ↦ search rules ] in
+    let r : c.layout_around.result ≡ layouts.within_limit (layouts.layout_by (λ _. c.match-innermost.of) plain_type) =
     search rules in
-    rw (e ∙ ap (λ n. layouts.within_limit (layouts.layout_by (layouts.compound_layout compounds n) t)) count)
-    (layout_whole compounds t)
+    rw (r ∙ around_all of plain_type c.match-innermost.of e) (layout_whole (compounds_of c.args.types.now) plain_type)

@@ -1,15 +1,15 @@
-use Rattle.std.proofs.Common.{◌≡◌, ◌+◌, ◌<◌, max, Option, None, Some, length, get_or, drop, map, ap, sym, ◌∙◌, arith, rules}
-use Rattle.std.specs.Option.{option_and_then}
-use Rattle.hv_ctree.specs.types.Erasure.{type_of, member_of, compounds_of}
-use Rattle.hv_ctree.specs.types.Layouts.{within_limit, layout_by, compound_layout}
-use Rattle.hv_ctypes.specs.working.Walks.{innermost, laid_from, taken_after}
-use Rattle.hv_ctypes.proofs.LayoutsLemmas.{laid_members, item-none, item-some, too_large, around_all}
-use Rattle.hv_ctypes.proofs.layouts.+layout.Goals as goal
-use Rattle.hv_ctypes.proofs.layouts.+layout.Goals.{type_layout-in-Some, type_layout-in-None}
+use Rattle.std.proofs.Common.{◌≡◌, ◌+◌, ◌<◌, max, None, Some, length, get_or, drop, map, ap, sym, ◌∙◌, arith, rules}
+use Rattle.hv_ctree.specs.types.Erasure.{type_of, member_of}
+use Rattle.hv_ctree.specs.types.Table.{compounds_of}
+use Rattle.hv_ctree.specs.types.Layouts.{within_limit, layout_by}
+use Rattle.hv_ctypes.specs.Compounds.{layouts_in}
+use Rattle.hv_ctypes.specs.working.Walks.{laid_from, taken_after}
+use Rattle.hv_ctypes.proofs.LayoutsLemmas.{laid_members, item-none, item-some, too_large}
+use Rattle.hv_ctypes.proofs.members.members_layout.Goals as goal
 
-pub members_layout-loop-member-init : goal.members_layout-loop-member-init
-members_layout-loop-member-init t c =
-    let of = compound_layout (compounds_of c.args.types.now) c.args.depth in
+pub loop-member-init : goal.loop-member-init
+loop-member-init c =
+    let of = layouts_in (compounds_of c.args.types.now) in
     let some : length c.args.members.now ≡ 0 → ⊥ = λ e. c.if-len-eq0.false (c.len.ensures ∙ e) in
     record {
       same = laid_members of c.args.is_union c.args.members.now some;
@@ -17,9 +17,9 @@ members_layout-loop-member-init t c =
       aligned = search rules;
     }
 
-pub members_layout-returns-in_err-layout-clause-value : goal.members_layout-returns-in_err-layout-clause-value
-members_layout-returns-in_err-layout-clause-value t c =
-    let of = compound_layout (compounds_of c.args.types.now) c.args.depth in
+pub returns-in_err-layout-clause-value : goal.returns-in_err-layout-clause-value
+returns-in_err-layout-clause-value c =
+    let of = layouts_in (compounds_of c.args.types.now) in
     let m = c.member-item.result in
     let i = c.loop-member.member-index in
     let inside : i < length c.args.members.now = search rules in
@@ -29,10 +29,10 @@ members_layout-returns-in_err-layout-clause-value t c =
     ∙ (sym (item-none of c.args.is_union c.loop-member.taken c.loop-member.align c.args.members.now i m inside is none)
     ∙ c.loop-member.invariant.same)
 
-pub members_layout-returns-then-taken-gt-MOST_OBJECT_BYTES-clause-value :
-    goal.members_layout-returns-then-taken-gt-MOST_OBJECT_BYTES-clause-value
-members_layout-returns-then-taken-gt-MOST_OBJECT_BYTES-clause-value t c =
-    let of = compound_layout (compounds_of c.args.types.now) c.args.depth in
+pub returns-then-taken-gt-MOST_OBJECT_BYTES-clause-value :
+    goal.returns-then-taken-gt-MOST_OBJECT_BYTES-clause-value
+returns-then-taken-gt-MOST_OBJECT_BYTES-clause-value c =
+    let of = layouts_in (compounds_of c.args.types.now) in
     let m = c.member-item.result in
     let l = c.in_ok-layout.layout in
     let i = c.loop-member.member-index in
@@ -46,9 +46,9 @@ members_layout-returns-then-taken-gt-MOST_OBJECT_BYTES-clause-value t c =
     (map member_of (drop (i + 1) c.args.members.now)) large)
     ∙ c.loop-member.invariant.same
 
-pub members_layout-loop-member-preserved : goal.members_layout-loop-member-preserved
-members_layout-loop-member-preserved t c =
-    let of = compound_layout (compounds_of c.args.types.now) c.args.depth in
+pub loop-member-preserved : goal.loop-member-preserved
+loop-member-preserved c =
+    let of = layouts_in (compounds_of c.args.types.now) in
     let m = c.member-item.result in
     let l = c.in_ok-layout.layout in
     let i = c.loop-member.member-index in
@@ -66,12 +66,3 @@ members_layout-loop-member-preserved t c =
       within = omega arith;
       aligned = c.larger_alignment-align.ensures.aligned;
     }
-
-pub type_layout-returns-clause-value : goal.type_layout-returns-clause-value
-type_layout-returns-clause-value t c =
-    let of = compound_layout (compounds_of c.args.types.now) c.args.depth in
-    let plain_type = type_of c.args.t.now in
-    let e : c.match-innermost.of ≡ within_limit (option_and_then of (innermost plain_type)) =
-    elim c.match-innermost.branch [ type_layout-in-Some w ↦ search rules | type_layout-in-None w ↦ search rules ] in
-    let r : c.layout_around.result ≡ within_limit (layout_by (λ _. c.match-innermost.of) plain_type) = search rules in
-    r ∙ around_all of plain_type c.match-innermost.of e
