@@ -1,14 +1,14 @@
 //! Blanks at the ends of a line.
 ghost use Rattle.std.specs.Prelude.{◌≡◌, reverse};
-ghost use Rattle.hv_model.specs.Bytes.{without_leading_blanks as without_front};
-ghost use Rattle.hv_plain.specs.Bytes.{trimmed as trimmed_text};
+ghost use Rattle.hv_model.specs.Bytes.{without_leading_blanks};
+ghost use Rattle.hv_plain.specs.Bytes as texts;
 
 use hv_base::is_blank;
 use hv_model::skip_blanks;
 
 /// The text without the blanks at its end.
-fn without_back_blanks(text: &[u8]) -> &[u8]
-    ensures { result.now ≡ reverse (without_front (reverse text.now)) }
+fn without_trailing_blanks(text: &[u8]) -> &[u8]
+    ensures { result.now ≡ reverse (without_leading_blanks (reverse text.now)) }
 {
     let mut rest = text;
     while let [more @ .., last] = rest {
@@ -22,7 +22,7 @@ fn without_back_blanks(text: &[u8]) -> &[u8]
 
 /// The text without the blanks at both ends.
 pub fn trimmed(text: &[u8]) -> &[u8]
-    ensures { result.now ≡ trimmed_text text.now }
+    ensures { result.now ≡ texts.trimmed text.now }
 {
-    without_back_blanks(skip_blanks(text))
+    without_trailing_blanks(skip_blanks(text))
 }

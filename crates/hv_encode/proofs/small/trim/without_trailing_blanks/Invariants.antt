@@ -1,6 +1,6 @@
 use Rattle.std.proofs.Common.{◌≡◌, reverse, length}
 use Rattle.hv_model.specs.Bytes.{without_leading_blanks}
-use Rattle.hv_encode.proofs.small.trim.without_back_blanks.Given as goal
+use Rattle.hv_encode.proofs.small.trim.without_trailing_blanks.Given as goal
 
 abbrev pub invariant-loop-rest : goal.invariant-loop-rest
 invariant-loop-rest l =
