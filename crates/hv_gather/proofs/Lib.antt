@@ -1,3 +1,4 @@
+-- Lemmas, each file named after the definitions that it is about.
 pub mod AnswersLemmas
 pub mod CutLemmas
 pub mod ExtendsLemmas

@@ -1,3 +1,4 @@
+//! Why gathering ends without a bundle.
 ghost use Rattle.std.specs.Prelude.{◌≡◌};
 
 use hv_base::{Memory, Text};

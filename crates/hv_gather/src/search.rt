@@ -1,3 +1,4 @@
+//! The search for all files that a main file may include, over files that are read.
 ghost use Rattle.std.specs.Prelude.{◌≡◌, ◌<◌, ◌≤◌, ◌⊎◌, ℕ, List as ListOf, [], ◌∷◌, ◌++◌, Option as OptionOf, Some, None, IfOk, IfErr, OnOk, OnErr, IsTrue, length, map};
 ghost use Rattle.std.specs.Map.{lookup};
 ghost use Rattle.std.specs.Str.{bytes_eq};

@@ -1,3 +1,4 @@
+//! What a search keeps of a name that was asked for.
 ghost use Rattle.std.specs.Prelude.{◌≡◌, ◌≤◌, [], ◌∷◌, ◌++◌, IfOk, IfErr, OnOk, OnErr, length};
 ghost use Rattle.hv_base.specs.Ascii.{is_among};
 ghost use Rattle.hv_base.specs.Bundles as bundles;
