@@ -9,14 +9,14 @@ use Rattle.hv_grammar.specs.machine.Moves.{taken, taken_to_count, Moves, stays, 
 use Rattle.hv_grammar.proofs.Arriving.{want_nothing}
 use Rattle.hv_grammar.proofs.Completeness.{read_expression}
 
--- the machine has read all tokens and may end with the tree
-pub record Completes (ts : List Marked) (a : Expr) : Type 0 where
+-- the machine has read the tokens up to the others, and may end with the tree
+pub record Completes (ts us : List Marked) (a : Expr) : Type 0 where
   pub there : State
-  pub moves : Moves (want []) false ts there false []
+  pub moves : Moves (want []) false ts there false us
   pub ends : finished there ≡ Some a
 
 -- what the grammar derives, the machine reads, with this tree
-pub complete : {ts : List Marked} {a : Expr} → Reads 0 0 ts [] a → Completes ts a
+pub complete : {ts us : List Marked} {a : Expr} → Reads 0 0 ts us a → Completes ts us a
 complete r = let h = read_expression r (want []) false [] want_nothing (omega arith) refl in
     record {
       there = _;

@@ -541,18 +541,18 @@ selecting_read stack s a p _ = tt
 
 ------ the end
 
-pub finished_read : (stack : List Frame) (m : At) (t : Expr) (x : Bool) {ws : List Marked}
-    → ReadAt stack m x ws [] → finished_at stack m ≡ Some t → Reads 0 0 ws [] t
+pub finished_read : (stack : List Frame) (m : At) (t : Expr) (x : Bool) {ws us : List Marked}
+    → ReadAt stack m x ws us → finished_at stack m ≡ Some t → Reads 0 0 ws us t
 finished_read stack (Have k a) t x r e =
     ended (reduce 0 stack k a).stack (reduce 0 stack k a).level (reduce 0 stack k a).operand
     (reduce_holds stack 0 k a r) e where
-      all_read : (l : ℕ) (b : Expr) {ws from : List Marked} → Stacked [] ws from → Reads 0 l from [] b
-          → Reads 0 0 ws [] b
+      all_read : (l : ℕ) (b : Expr) {ws from us : List Marked} → Stacked [] ws from → Reads 0 l from us b
+          → Reads 0 0 ws us b
       all_read l b empty r = lowered 0 l (omega arith) r
 
-      ended : (stack : List Frame) (l : ℕ) (b : Expr) {ws : List Marked} → Holds l stack b ws []
-          → end_at stack b ≡ Some t → Reads 0 0 ws [] t
-      ended [] l b {ws} h e = let same : b ≡ t = cc in
-          subst (λ (x : Expr). Reads 0 0 ws [] x) same (all_read l b h.stacked h.reads)
+      ended : (stack : List Frame) (l : ℕ) (b : Expr) {ws us : List Marked} → Holds l stack b ws us
+          → end_at stack b ≡ Some t → Reads 0 0 ws us t
+      ended [] l b {ws} {us} h e = let same : b ≡ t = cc in
+          subst (λ (x : Expr). Reads 0 0 ws us x) same (all_read l b h.stacked h.reads)
       ended (f ∷ stack) l b h e = cc
 finished_read stack _ t x r e = cc

@@ -445,6 +445,6 @@ pub start_read : (ws : List Marked) → ReadState (want []) false ws ws
 start_read ws = w_plainly (record { fits = omega arith; stacked = empty })
 
 -- what the machine accepts, the grammar derives, with this tree and these marks
-pub sound : {ts : List Marked} {n : State} {y : Bool} {a : Expr} → Moves (want []) false ts n y []
-    → finished n ≡ Some a → Reads 0 0 ts [] a
-sound {ts} {n} {y} {a} h e = finished_read n.stack n.at a y (moves_read ts (start_read ts) h) e
+pub sound : {ts us : List Marked} {n : State} {y : Bool} {a : Expr}
+    → Moves (want []) false ts n y us → finished n ≡ Some a → Reads 0 0 ts us a
+sound {ts} {us} {n} {y} {a} h e = finished_read n.stack n.at a y (moves_read ts (start_read ts) h) e

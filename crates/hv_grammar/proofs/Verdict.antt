@@ -343,7 +343,7 @@ record Came (first : List Marked) : Type 0 where
 
 came : (first rest : List Marked) → WholeExpression (first ++ rest) → Came first
 came first rest w = go (complete w.reads) where
-  go : Completes (first ++ rest) w.tree → Came first
+  go : Completes (first ++ rest) [] w.tree → Came first
   go h = let s = split_at first rest h.moves in
       record { there = s.there; pending = s.pending; moves = s.before }
 
@@ -413,7 +413,7 @@ too_deep {l} {m} {n} {before} t k s e f b =
 too_early : {l : Limits} {m : State} {n : ℕ} {before : List Token} → Stand l m n before
     → finished m ≡ None → Derives l token_of WholeExpression before → ⊥
 too_early {m = m} {before = before} s e d = go (complete d.whole.reads) where
-  go : Completes d.first d.whole.tree → ⊥
+  go : Completes d.first [] d.whole.tree → ⊥
   go h =
       let there : reached (want []) (tokens_of d.first) ≡ Some h.there = reached_all h.moves in
       let here : reached (want []) (tokens_of s.base.done) ≡ Some m = reached_all s.base.moves in
@@ -515,6 +515,6 @@ answer_run l n i a (takes {m = m} {n = o} {x = x} {t = t} {ts = ts} (taken_to_co
 pub derived_answer : (l : Limits) (ts : List Token) (a : Expr) → DerivesExpression l ts a
     → answer l (want []) 0 0 ts ≡ Accepted a
 derived_answer l ts a d = go (complete d.reads) where
-  go : Completes d.first a → answer l (want []) 0 0 ts ≡ Accepted a
+  go : Completes d.first [] a → answer l (want []) 0 0 ts ≡ Accepted a
   go h = ap (answer l (want []) 0 0) (sym d.tokens)
       ∙ answer_run l 0 0 a h.moves refl d.limits (omega arith) h.ends

@@ -30,15 +30,17 @@ ExpressionsHaveOneTree = (ts us : List Marked) (a b : Expr)
     → map (λ t. t.token) ts ≡ map (λ t. t.token) us
     → Reads 0 0 ts [] a → Reads 0 0 us [] b → a ≡ b
 
--- what the machine accepts, over tokens with these marks, the grammar derives, with the same tree
+-- where the machine may end, over tokens with these marks and before the others, the grammar derives
+-- the tree of the tokens up to the others
 abbrev pub MachineIsSound : Type 0
-MachineIsSound = (ts : List Marked) (n : State) (y : Bool) (a : Expr)
-    → Moves (want []) false ts n y [] → finished n ≡ Some a → Reads 0 0 ts [] a
+MachineIsSound = (ts us : List Marked) (n : State) (y : Bool) (a : Expr)
+    → Moves (want []) false ts n y us → finished n ≡ Some a → Reads 0 0 ts us a
 
--- what the grammar derives, the machine accepts, over the same marks and with the same tree
+-- what the grammar derives, whatever stands after it, the machine reads over the same marks, and it
+-- may end there with the same tree
 abbrev pub MachineIsComplete : Type 0
-MachineIsComplete = (ts : List Marked) (a : Expr) → Reads 0 0 ts [] a
-    → (n : State) × (Moves (want []) false ts n false []) × (finished n ≡ Some a)
+MachineIsComplete = (ts us : List Marked) (a : Expr) → Reads 0 0 ts us a
+    → (n : State) × (Moves (want []) false ts n false us) × (finished n ≡ Some a)
 
 -- what an answer says of the tokens: the tree that they derive, or their first refusal
 abbrev pub Says : Limits → List Token → Answer → Type 0

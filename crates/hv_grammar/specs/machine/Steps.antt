@@ -266,8 +266,7 @@ step_want stack p s = operand_at stack p s
 
 ------ expressions: after an operand
 
--- the sign goes on, where the frame around admits what it makes; what the token does otherwise comes
--- last
+-- the sign goes on, where the frame around admits what it makes; what it does otherwise comes last
 abbrev pub infix_at : Infix → Reduced → Option Taken → Option Taken
 infix_at i r other =
     cond (nat_le (hole_of r.stack) (makes i))
