@@ -1,5 +1,5 @@
 -- Which statements a lifting has: those that a valid configuration runs.
-use Rattle.std.proofs.Common.{◌≡◌, ℕ, zero, suc, ◌<◌, ◌≤◌, Bool, true, false, not, ◌&&◌, ◌+◌, List, [], ◌∷◌, ◌++◌, length, map, take, drop, get_or, reverse, cond, refl, sym, ◌∙◌, ap, arith, subst, IsTrue, ◌⊎◌, inl, inr}
+use Rattle.std.proofs.Common.{◌≡◌, ℕ, zero, suc, ◌<◌, ◌≤◌, Bool, true, false, not, ◌&&◌, ◌+◌, List, [], ◌∷◌, ◌++◌, length, map, take, drop, get_or, reverse, cond, refl, sym, ◌∙◌, ap, arith, subst, IsTrue}
 use Rattle.std.specs.Prelude.{Result, Ok, Err, IfOk, ◌↔◌, MatchBool}
 use Rattle.std.specs.List.{All, AllByRecursion, flat_map, list_all, list_any}
 use Rattle.std.specs.Str.{bytes_eq}
@@ -10,7 +10,7 @@ use Rattle.std.proofs.lemmas.List.Folds.{list_all-map}
 use Rattle.std.proofs.lemmas.Slice.Eq.{bytes_eq-Decides}
 use Rattle.hv_base.proofs.Booleans.{and_parts, contrary, not_true, or_left, or_right}
 use Rattle.hv_base.proofs.Lists.{reverse-cons}
-use Rattle.hv_cond.specs.Diagram.{Diagram, IsNever, Keeps, holds, value_of}
+use Rattle.hv_cond.specs.Diagram.{AreDisjoint, Diagram, Keeps, Meet, holds, value_of}
 use Rattle.hv_cond.specs.Laws.{Keeps-trans}
 use Rattle.hv_cond.specs.declared.conditions.Cond.{Cond}
 use Rattle.hv_model.specs.Name.{are_distinct}
@@ -87,56 +87,11 @@ module _ (names : List (List ℕ)) (distinct : are_distinct names ≡ true) (val
 
 ------ is_met
 
-at_none : (p : List Bool → Bool) (b : Bool) → p [] ≡ b
-    → ((values : List Bool) × (length values ≡ 0) × (p values ≡ true))
-    ⊎ ((values : List Bool) → length values ≡ 0 → p values ≡ false)
-at_none p true e = inl ([], refl, e)
-at_none p false e = inr none_holds
-  where
-    none_holds : (values : List Bool) → length values ≡ 0 → p values ≡ false
-    none_holds [] len = e
-    none_holds (value ∷ values) len = absurd (omega arith)
-
--- a test on so many values passes for some, or for none
-some_or_none : (n : ℕ) (p : List Bool → Bool)
-    → ((values : List Bool) × (length values ≡ n) × (p values ≡ true))
-    ⊎ ((values : List Bool) → length values ≡ n → p values ≡ false)
-some_or_none zero p = at_none p (p []) refl
-some_or_none (suc n) p = elim (some_or_none n (λ values. p (true ∷ values))) [
-  | inl found ↦ inl (true ∷ found.0, ap suc found.1, found.2)
-  | inr on ↦ elim (some_or_none n (λ values. p (false ∷ values))) [
-    | inl found ↦ inl (false ∷ found.0, ap suc found.1, found.2)
-    | inr off ↦ inr (λ values len. neither values len on off)
-  ]
-]
-  where
-    neither : (values : List Bool) → length values ≡ suc n
-        → ((more : List Bool) → length more ≡ n → p (true ∷ more) ≡ false)
-        → ((more : List Bool) → length more ≡ n → p (false ∷ more) ≡ false) → p values ≡ false
-    neither [] len on off = absurd (omega arith)
-    neither (true ∷ values) len on off = on values (omega (arith, len))
-    neither (false ∷ values) len on off = off values (omega (arith, len))
-
-and_second : (a b : Bool) → (a && b) ≡ false → a ≡ true → b ≡ false
-and_second true b e is = e
-and_second false b e is = cc
-
--- what the test of the conjunction tells
-pub met_is : (old now : Diagram) (valid c both : Cond) (never : Bool) → Keeps old now
-    → ((values : List Bool) → holds now both values ≡ (holds old valid values &&
-    holds old c values)) → (IsTrue never ↔ IsNever now both) → IsMet old valid c (not never)
-met_is old now valid c both true keeps meaning told = λ values len holds_valid.
-    and_second (holds old valid values) (holds old c values)
-    (sym (meaning values) ∙ told.0 refl values (len ∙ sym keeps.variables)) holds_valid
-met_is old now valid c both false keeps meaning told =
-    elim (some_or_none now.variables (holds now both)) [
-      | inl found ↦
-          let parts =
-          and_parts (holds old valid found.0) (holds old c found.0)
-          (sym (meaning found.0) ∙ found.2) in
-          (found.0, found.1 ∙ keeps.variables, parts.0, parts.1)
-      | inr none_holds ↦ absurd (let yes = told.1 none_holds in cc)
-    ]
+-- what the store tells of both conditions
+pub met_is : (store : Diagram) (valid c : Cond) (met : Bool) → (IsTrue met ↔ Meet store valid c) → ((met ≡ false) ↔ AreDisjoint store valid c)
+    → IsMet store valid c met
+met_is store valid c true together apart = together.0 refl
+met_is store valid c false together apart = apart.0 refl
 
 reached_in : (model : Features) (store : Diagram) (valid c : Cond) (groups : List Group)
     (met : Bool) → IsValidIn model store valid → IsCondOf store groups c

@@ -28,15 +28,15 @@ pub struct Lifting {
     pub blocks: List<Block>,
 }
 
-/// Whether some valid configuration meets the condition.
+/// Whether some valid configuration meets the condition: the diagram of the rules is gone down with
+/// it to the first path that both allow, and not joined with it.
 fn is_met(store: &mut Store, valid: Cond, cond: Cond) -> Result<bool, Memory>
     requires valid { IsNode store.old valid }
     requires cond { IsNode store.old cond }
     ensures keeps { Keeps store.old store.new }
     ensures met { IfOk result (IsMet store.old valid cond) }
 {
-    let both = store.and(valid, cond)?;
-    Ok(!store.is_false(both))
+    Ok(store.meets(valid, cond)?)
 }
 
 /// The tests of a statement in these groups, of which the outermost comes first.
