@@ -1,5 +1,7 @@
-mod AlternativeLemmas
+mod AddedLemmas
 mod BeginningLemmas
 mod KeyLemmas
+mod OverriddenLemmas
 mod PartLemmas
+mod SplitLemmas
 mod TableLemmas

@@ -1,72 +1,79 @@
--- What the meanings of alternatives say of their conditions.
-use Rattle.std.proofs.Common.{zero, suc, get_or, ◌≡◌, ◌↔◌, ℕ, Bool, true, false, List, [], ◌∷◌, ◌++◌, refl, sym, ◌∙◌, ap, ◌<◌, ◌≤◌, length, arith, if◌then◌else◌, All, AllPairs, Any, IsTrue, Result, Ok, Err, IfOk}
-use Rattle.std.proofs.lemmas.List.Elements.{All-cons}
-use Rattle.std.proofs.lemmas.List.Kept.{AllPairs-cons}
-use Rattle.hv_cond.specs.Diagram.{AreDisjoint, Diagram, holds}
+-- What the meanings of parts say of each part and of their conditions.
+use Rattle.std.proofs.Common.{zero, suc, get_or, ◌≡◌, ◌≢◌, ℕ, Bool, true, false, cond, List, [], ◌∷◌, ◌++◌, refl, sym, ◌∙◌, ap, ◌+◌, ◌<◌, ◌≤◌, length, arith, zero-add, if◌then◌else◌}
+use Rattle.std.proofs.lemmas.List.Elements.{All-cons, All-nil}
+use Rattle.std.proofs.lemmas.List.Sums.{sum_by-cons}
+use Rattle.std.specs.List.{All}
+use Rattle.hv_cond.specs.Diagram.{AllNodes, Diagram, IsNode, Keeps, holds}
 use Rattle.hv_cond.specs.declared.conditions.Cond.{Cond}
-use Rattle.hv_macros.specs.Alternatives.{meanings}
+use Rattle.hv_cond.specs.Parts.{IsPartition, NoneFalse, count_satisfied}
+use Rattle.hv_macros.specs.Alternatives.{conditions, meanings}
 use Rattle.hv_toks.specs.Macro.{Macro, macro_of}
 use Rattle.hv_macros.specs.declared.alternatives.Alternative.{Alternative}
 
--- without a meaning no condition holds
-none_holds : (d : Diagram) (v : List Bool) (xs : List Alternative) → meanings d v xs ≡ [] → All (λ (a : Alternative). holds d a.cond v ≡ false) xs
-none_holds d v [] e = λ k x lt. absurd (omega arith)
-none_holds d v (x ∷ xs) e = first (holds d x.cond v) refl e (none_holds d v xs)
+-- an assignment has as many meanings as conditions that it satisfies
+counted : (d : Diagram) (v : List Bool) (xs : List Alternative)
+    → count_satisfied d (conditions xs) v ≡ length (meanings d v xs)
+counted d v [] = refl
+counted d v (x ∷ xs) =
+    sum_by-cons (λ (c : Cond). cond (holds d c v) 1 0) x.cond (conditions xs)
+    ∙ (ap (λ (n : ℕ). cond (holds d x.cond v) 1 0 + n) (counted d v xs)
+    ∙ one (holds d x.cond v) (macro_of x.meaning) (meanings d v xs))
   where
-    first : (b : Bool) → holds d x.cond v ≡ b → (if b then macro_of x.meaning ∷ [] else []) ++ meanings d v xs ≡ []
-        → (meanings d v xs ≡ [] → All (λ (a : Alternative). holds d a.cond v ≡ false) xs) → All (λ (a : Alternative). holds d a.cond v ≡ false) (x ∷ xs)
-    first true is none rest = cc
-    first false is none rest = All-cons (λ (a : Alternative). holds d a.cond v ≡ false) x xs is (rest none)
+    one : (b : Bool) (m : Macro) (ms : List Macro)
+        → cond b 1 0 + length ms ≡ length ((if b then m ∷ [] else []) ++ ms)
+    one true m ms = omega arith
+    one false m ms = zero-add (length ms)
 
--- where there is a meaning a condition holds
-some_holds : (d : Diagram) (v : List Bool) (xs : List Alternative) (m : Macro) (ms : List Macro) → meanings d v xs ≡ m ∷ ms → Any (λ (a : Alternative). holds d a.cond v ≡ true) xs
-some_holds d v [] m ms e = cc
-some_holds d v (x ∷ xs) m ms e = first (holds d x.cond v) refl e (some_holds d v xs m ms)
+pub partition_parts : (old new : Diagram) (c : Cond) (means : List Bool → Macro)
+    (parts : List Alternative) → Keeps old new → IsNode old c
+    → AllNodes new (conditions parts) → NoneFalse new (conditions parts)
+    → ((v : List Bool) → meanings new v parts ≡ (if holds old c v then means v ∷ [] else []))
+    → IsPartition new c (conditions parts)
+partition_parts old new c means parts keeps node nodes none h =
+    record {
+      nodes = nodes;
+      none_false = none;
+      one = λ v. counted new v parts
+          ∙ (ap (λ (ms : List Macro). length ms) (h v)
+          ∙ (one (holds old c v) (means v)
+          ∙ ap (λ (b : Bool). cond b 1 0) (sym (keeps.meaning c node v))));
+    }
   where
-    later : Any (λ (a : Alternative). holds d a.cond v ≡ true) xs → Any (λ (a : Alternative). holds d a.cond v ≡ true) (x ∷ xs)
-    later (k, a, lt, at, is) = (suc k, a, omega arith, at, is)
+    one : (b : Bool) (m : Macro) → length (if b then m ∷ [] else []) ≡ cond b 1 0
+    one true m = refl
+    one false m = refl
 
-    first : (b : Bool) → holds d x.cond v ≡ b → (if b then macro_of x.meaning ∷ [] else []) ++ meanings d v xs ≡ m ∷ ms
-        → (meanings d v xs ≡ m ∷ ms → Any (λ (a : Alternative). holds d a.cond v ≡ true) xs) → Any (λ (a : Alternative). holds d a.cond v ≡ true) (x ∷ xs)
-    first true is some rest = (zero, x, omega arith, refl, is)
-    first false is some rest = later (rest some)
+-- each of these is this macro
+abbrev AreAll : Macro → List Macro → Type 0
+AreAll m [] = Unit {0}
+AreAll m (x ∷ xs) = (x ≡ m) × AreAll m xs
 
--- where there is one meaning at most, a condition holds at most once
-at_most_once : (d : Diagram) (xs : List Alternative) → ((v : List Bool) → length (meanings d v xs) ≤ 1) → AllPairs (λ (a b : Alternative). AreDisjoint d a.cond b.cond) xs
-at_most_once d [] few = λ i j x lt within. absurd (omega arith)
-at_most_once d (x ∷ xs) few =
-    AllPairs-cons (λ (a b : Alternative). AreDisjoint d a.cond b.cond) x xs
-    (λ k a lt v len is. none_holds d v xs (behind (holds d x.cond v) (meanings d v xs) is (few v)) k a lt)
-    (at_most_once d xs (λ v. fewer (holds d x.cond v) (meanings d v xs) (few v)))
+own : (d : Diagram) (v : List Bool) (m : Macro) (xs : List Alternative) → AreAll m (meanings d v xs)
+    → All (λ (a : Alternative). holds d a.cond v ≡ true → macro_of a.meaning ≡ m) xs
+own d v m [] few = All-nil (λ (a : Alternative). holds d a.cond v ≡ true → macro_of a.meaning ≡ m)
+own d v m (x ∷ xs) few =
+    All-cons (λ (a : Alternative). holds d a.cond v ≡ true → macro_of a.meaning ≡ m) x xs
+    (λ is. first (holds d x.cond v) (macro_of x.meaning) (meanings d v xs) is few)
+    (own d v m xs (later (holds d x.cond v) (macro_of x.meaning) (meanings d v xs) few))
   where
-    behind : (b : Bool) (ms : List Macro) → b ≡ true → length ((if b then macro_of x.meaning ∷ [] else []) ++ ms) ≤ 1 → ms ≡ []
-    behind false ms is l = cc
-    behind true [] is l = refl
-    behind true (m ∷ ms) is l = absurd (omega arith)
+    first : (b : Bool) (y : Macro) (ms : List Macro) → b ≡ true
+        → AreAll m ((if b then y ∷ [] else []) ++ ms) → y ≡ m
+    first true y ms is few = few.0
+    first false y ms is few = cc
 
-    fewer : (b : Bool) (ms : List Macro) → length ((if b then macro_of x.meaning ∷ [] else []) ++ ms) ≤ 1 → length ms ≤ 1
-    fewer true ms l = omega arith
-    fewer false ms l = l
+    later : (b : Bool) (y : Macro) (ms : List Macro) → AreAll m ((if b then y ∷ [] else []) ++ ms)
+        → AreAll m ms
+    later true y ms few = few.1
+    later false y ms few = few
 
-pub disjoint_parts : {E : Type 0} (result : Result (List Alternative) E) (old new : Diagram) (cond : Cond) (means : List Bool → Macro)
-    → IfOk result (λ parts. (v : List Bool) → meanings new v parts ≡ (if holds old cond v then means v ∷ [] else []))
-    → IfOk result (λ parts. AllPairs (λ (one other : Alternative). AreDisjoint new one.cond other.cond) parts)
-disjoint_parts (Err x) old new cond means h = tt
-disjoint_parts (Ok parts) old new cond means h = at_most_once new parts (λ v. rw (h v) (one (holds old cond v) (means v)))
+pub own_meanings : (old new : Diagram) (c : Cond) (means : List Bool → Macro) (parts : List Alternative)
+    → ((v : List Bool) → meanings new v parts ≡ (if holds old c v then means v ∷ [] else []))
+    → All (λ (part : Alternative). (v : List Bool) → holds new part.cond v ≡ true
+    → macro_of part.meaning ≡ means v) parts
+own_meanings old new c means parts h =
+    λ k a lt v is. own new v (means v) parts
+    (only (holds old c v) (means v) (meanings new v parts) (h v)) k a lt is
   where
-    one : (b : Bool) (m : Macro) → length (if b then m ∷ [] else []) ≤ 1
-    one true m = omega arith
-    one false m = omega arith
-
-pub together_parts : {E : Type 0} (result : Result (List Alternative) E) (old new : Diagram) (cond : Cond) (means : List Bool → Macro)
-    → IfOk result (λ parts. (v : List Bool) → meanings new v parts ≡ (if holds old cond v then means v ∷ [] else []))
-    → IfOk result (λ parts. (v : List Bool) → IsTrue (holds old cond v) ↔ Any (λ (part : Alternative). IsTrue (holds new part.cond v)) parts)
-together_parts (Err x) old new cond means h = tt
-together_parts (Ok parts) old new cond means h = λ v. both v (holds old cond v) (h v)
-  where
-    none : (v : List Bool) → meanings new v parts ≡ [] → (k : ℕ) (a : Alternative) → k < length parts → get_or parts k a ≡ a → holds new a.cond v ≡ true → false ≡ true
-    none v e k a lt at is = sym (none_holds new v parts e k a lt) ∙ (ap (λ (x : Alternative). holds new x.cond v) at ∙ is)
-
-    both : (v : List Bool) (b : Bool) → meanings new v parts ≡ (if b then means v ∷ [] else []) → IsTrue b ↔ Any (λ (part : Alternative). IsTrue (holds new part.cond v)) parts
-    both v true e = (λ is. some_holds new v parts (means v) [] e, λ some. refl)
-    both v false e = (λ is. cc, λ (k, a, lt, at, is). none v e k a lt at is)
+    only : (b : Bool) (m : Macro) (ms : List Macro) → ms ≡ (if b then m ∷ [] else []) → AreAll m ms
+    only true m ms e = rw e (refl, tt)
+    only false m ms e = rw e tt

@@ -1,30 +1,23 @@
 //! The macros that a translation unit begins with.
-ghost use Rattle.std.specs.Prelude.{◌≡◌, ◌&&◌, ◌∷◌, [], ◌<◌, Bool, List, ℕ, if◌then◌else◌, length, IfOk, OnOk};
-ghost use Rattle.std.specs.Str.{bytes_eq};
-ghost use Rattle.hv_cond.specs.Diagram.{IsNode, Keeps, holds};
-ghost use Rattle.hv_toks.specs.Macro.{undefined};
+ghost use Rattle.std.specs.Prelude.{◌≡◌, ◌∷◌, [], Bool, List, ℕ, length, IfOk, OnOk};
+ghost use Rattle.hv_cond.specs.Diagram.{IsNode, Keeps};
 ghost use Rattle.hv_model.specs.Beginning.{beginning, options_from, place_in, predefined};
 ghost use Rattle.hv_toks.specs.MacroState.{entries_of, meaning_after, meaning_of, number_macro, number_token};
-ghost use Rattle.hv_macros.specs.Table.{IsTableOf, meaning_in};
+ghost use Rattle.hv_macros.specs.Table.{HasOneBody, IsTableOf, SetsUnder, meaning_in};
 ghost use Rattle.hv_toks.specs.declared.macros.Body.TheVariants.{Object};
 
 use crate::tables::MacroTable;
-use hv_base::{List, Memory, Place, Span, Text};
+use hv_base::{List, Memory, OPTIONS_FILE, PREDEFINED_FILE, Place, Span, Text};
 use hv_cond::{Cond, Store};
 use hv_model::Model;
 use hv_toks::{Body, PpKind, PpTok};
 use std::alloc::Global;
 use std::rc::Rc;
 
-/// The number of the file in which the options that are on are defined, at their own numbers.
-const OPTION_FILE: u32 = 4_294_967_295;
-
-/// The number of the file of the predefined macros (ISO/IEC 9899:1999, 6.10.8).
-const PREDEFINED_FILE: u32 = 4_294_967_294;
-
 /// The replacement list that is one pp-number.
 fn number_body(alloc: Global, text: &[u8], file: u32, offset: u64) -> Result<Rc<Body>, Memory>
-    ensures { IfOk result (λ body. body.value ≡ Object (number_token text.now (place_in file offset) ∷ [])) }
+    ensures { IfOk result
+        (λ body. body.value ≡ Object (number_token text.now (place_in file offset) ∷ [])) }
 {
     let token = PpTok {
         kind: PpKind::Number,
@@ -38,9 +31,7 @@ fn number_body(alloc: Global, text: &[u8], file: u32, offset: u64) -> Result<Rc<
         first: false,
     };
     let mut body = List::new(alloc);
-    if body.push(token).is_err() {
-        return Err(Memory);
-    }
+    body.add(token)?;
     Ok(Rc::new(alloc, Body::Object { body })?)
 }
 
@@ -59,8 +50,8 @@ fn define_number(
     requires nodes { IsTableOf store.old table.old }
     ensures keeps { Keeps store.old store.new }
     ensures nodes { IsTableOf store.new table.new }
-    ensures defined { OnOk result ((values : List Bool) (other : List ℕ) → meaning_in store.new table.new values other
-        ≡ (if bytes_eq name.now other && holds store.old cond values then number_macro text.now (place_in file offset) else meaning_in store.old table.old values other)) }
+    ensures defined { OnOk result (SetsUnder store.old store.new table.old table.new
+        name.now cond (number_macro text.now (place_in file offset))) }
 {
     let body = number_body(alloc, text, file, offset)?;
     let place = Place {
@@ -82,13 +73,15 @@ fn define_options(
     requires nodes { IsTableOf store.old table.old }
     ensures keeps { Keeps store.old store.new }
     ensures nodes { IsTableOf store.new table.new }
-    ensures defined { OnOk result ((values : List Bool) (other : List ℕ) → meaning_in store.new table.new values other
-        ≡ meaning_after (meaning_in store.old table.old values other) (entries_of (options_from 0 model.now.names values)) other) }
+    ensures defined { OnOk result
+        ((values : List Bool) (other : List ℕ) → meaning_in store.new table.new values other
+        ≡ meaning_after (meaning_in store.old table.old values other)
+        (entries_of (options_from 0 model.now.names values)) other) }
 {
     for i in 0..model.options() {
         let on = store.var(i as u32)?;
         let name = model.name(i).as_bytes();
-        define_number(alloc, table, store, name, on, b"1", OPTION_FILE, i as u64)?;
+        define_number(alloc, table, store, name, on, b"1", OPTIONS_FILE, i as u64)?;
     }
     Ok(())
 }
@@ -98,8 +91,10 @@ fn define_predefined(alloc: Global, table: &mut MacroTable, store: &mut Store) -
     requires nodes { IsTableOf store.old table.old }
     ensures keeps { Keeps store.old store.new }
     ensures nodes { IsTableOf store.new table.new }
-    ensures defined { OnOk result ((values : List Bool) (other : List ℕ) → meaning_in store.new table.new values other
-        ≡ meaning_after (meaning_in store.old table.old values other) (entries_of predefined) other) }
+    ensures defined { OnOk result
+        ((values : List Bool) (other : List ℕ) → meaning_in store.new table.new values other
+        ≡ meaning_after (meaning_in store.old table.old values other)
+        (entries_of predefined) other) }
 {
     let file = PREDEFINED_FILE;
     let always = store.truth();
@@ -129,13 +124,17 @@ fn define_predefined(alloc: Global, table: &mut MacroTable, store: &mut Store) -
 }
 
 impl MacroTable {
-    /// The macros that a translation unit begins with: each option of the model is 1 where it is on,
-    /// and the predefined macros have their values. Variable i of the store is option i.
+    /// The macros that a translation unit begins with: each option of the model is 1 where it is
+    /// on, and the predefined macros have their values. Variable i of the store is option i.
     pub fn new(alloc: Global, model: &Model, store: &mut Store) -> Result<MacroTable, Memory>
         requires { store.old.variables ≡ length model.now.names }
         ensures keeps { Keeps store.old store.new }
         ensures nodes { IfOk result (λ table. IsTableOf store.new table) }
-        ensures begins { IfOk result (λ table. (values : List Bool) (name : List ℕ) → meaning_in store.new table values name ≡ meaning_of (entries_of (beginning model.now.names values)) name) }
+        ensures begins { IfOk result
+            (λ table. (values : List Bool) (name : List ℕ) →
+            meaning_in store.new table values name
+            ≡ meaning_of (entries_of (beginning model.now.names values)) name) }
+        ensures one_body { IfOk result (λ table. HasOneBody store.new table) }
     {
         let mut table = MacroTable::empty(alloc);
         define_options(alloc, &mut table, model, store)?;

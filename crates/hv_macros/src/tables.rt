@@ -1,10 +1,11 @@
 //! Macro tables under all configurations.
-ghost use Rattle.std.specs.Prelude.{◌≡◌, ◌↔◌, ◌&&◌, ◌∷◌, [], AllPairs, Any, Bool, IsTrue, List, ℕ, if◌then◌else◌, IfOk, OnErr, OnOk};
+ghost use Rattle.std.specs.Prelude.{◌≡◌, ◌↔◌, ◌∷◌, [], true, All, AllPairs, Bool, IsTrue, List, ℕ, if◌then◌else◌, IfOk, OnErr, OnOk};
 ghost use Rattle.std.specs.Str.{bytes_eq};
-ghost use Rattle.hv_cond.specs.Diagram.{AreDisjoint, IsNode, Keeps, holds};
-ghost use Rattle.hv_macros.specs.Alternatives.{AllHold, AllNodes, meanings};
+ghost use Rattle.hv_cond.specs.Diagram.{Diagram, IsNode, Keeps, holds};
+ghost use Rattle.hv_cond.specs.Parts.{IsPartition};
+ghost use Rattle.hv_macros.specs.Alternatives.{MeansOther, conditions, meanings};
+ghost use Rattle.hv_macros.specs.Table.{HasOneBody, IsFreeFor, IsNoMacro, IsTableOf, SetsNothing, SetsUnder, kept, meaning_in};
 ghost use Rattle.hv_toks.specs.Macro.{defined, macro_of, undefined};
-ghost use Rattle.hv_macros.specs.Table.{IsTableOf, kept, meaning_in};
 
 use crate::alternatives::{Alternative, overridden, split};
 use hv_base::{List, Memory, Place};
@@ -19,6 +20,8 @@ use std::rc::Rc;
 #[derive(Drop)]
 pub struct MacroTable {
     alloc: Global,
+    /// Of each name the conditions under which it is a macro, with the macro. A name without an
+    /// entry, or outside its conditions, is none.
     names: IndexMap<Vec<u8>, List<Alternative>>,
 }
 
@@ -42,8 +45,10 @@ impl MacroTable {
     }
 
     fn put(&mut self, name: &[u8], alternatives: List<Alternative>) -> Result<(), Memory>
-        ensures put { OnOk result ((other : List ℕ) → kept self.new other ≡ (if bytes_eq name.now other then alternatives else kept self.old other)) }
-        ensures unchanged { OnErr result ((other : List ℕ) → kept self.new other ≡ kept self.old other) }
+        ensures put { OnOk result ((other : List ℕ) → kept self.new other
+            ≡ (if bytes_eq name.now other then alternatives else kept self.old other)) }
+        ensures unchanged { OnErr result
+            ((other : List ℕ) → kept self.new other ≡ kept self.old other) }
     {
         let key = Vec::from_slice(self.alloc, name)?;
         self.names.insert(key, alternatives)?;
@@ -61,16 +66,17 @@ impl MacroTable {
         requires nodes { IsTableOf store.old self.old }
         ensures keeps { Keeps store.old store.new }
         ensures nodes { IsTableOf store.new self.new }
-        ensures set { OnOk result ((values : List Bool) (other : List ℕ) → meaning_in store.new self.new values other
-            ≡ (if bytes_eq name.now other && holds store.old cond values then macro_of meaning.now else meaning_in store.old self.old values other)) }
-        ensures unchanged { OnErr result ((values : List Bool) (other : List ℕ) → meaning_in store.new self.new values other ≡ meaning_in store.old self.old values other) }
+        ensures set { OnOk result (SetsUnder store.old store.new self.old self.new
+            name.now cond (macro_of meaning.now)) }
+        ensures unchanged { OnErr result (SetsNothing store.old store.new self.old self.new) }
     {
         let alternatives = overridden(self.alloc, store, self.find(name), cond, meaning)?;
         self.put(name, alternatives)
     }
 
     /// Defines a macro under a condition: there the name has this meaning, elsewhere and for other
-    /// names nothing changes. For want of memory nothing changes anywhere.
+    /// names nothing changes. When out of memory nothing changes anywhere. Definitions of one place
+    /// keep one name and one body where nothing else is defined at this place.
     pub fn define(
         &mut self,
         store: &mut Store,
@@ -83,29 +89,43 @@ impl MacroTable {
         requires nodes { IsTableOf store.old self.old }
         ensures keeps { Keeps store.old store.new }
         ensures nodes { IsTableOf store.new self.new }
-        ensures defined { OnOk result ((values : List Bool) (other : List ℕ) → meaning_in store.new self.new values other
-            ≡ (if bytes_eq name.now other && holds store.old cond values then defined place body.value else meaning_in store.old self.old values other)) }
-        ensures unchanged { OnErr result ((values : List Bool) (other : List ℕ) → meaning_in store.new self.new values other ≡ meaning_in store.old self.old values other) }
+        ensures defined { OnOk result (SetsUnder store.old store.new self.old self.new
+            name.now cond (defined place body.value)) }
+        ensures unchanged { OnErr result (SetsNothing store.old store.new self.old self.new) }
+        ensures one_body { HasOneBody store.old self.old
+            → IsFreeFor store.old self.old place name.now body.value
+            → HasOneBody store.new self.new }
     {
         self.set(store, name, cond, &Meaning::Defined { place, body })
     }
 
-    /// Removes the macro of this name under a condition, and changes nothing elsewhere and for other
-    /// names. For want of memory nothing changes anywhere.
+    /// Removes the macro of this name under a condition, and changes nothing elsewhere and for
+    /// other names. When out of memory nothing changes anywhere.
     pub fn undef(&mut self, store: &mut Store, name: &[u8], cond: Cond) -> Result<(), Memory>
         requires cond { IsNode store.old cond }
         requires nodes { IsTableOf store.old self.old }
         ensures keeps { Keeps store.old store.new }
         ensures nodes { IsTableOf store.new self.new }
-        ensures removed { OnOk result ((values : List Bool) (other : List ℕ) → meaning_in store.new self.new values other
-            ≡ (if bytes_eq name.now other && holds store.old cond values then undefined else meaning_in store.old self.old values other)) }
-        ensures unchanged { OnErr result ((values : List Bool) (other : List ℕ) → meaning_in store.new self.new values other ≡ meaning_in store.old self.old values other) }
+        ensures removed { OnOk result (SetsUnder store.old store.new self.old self.new
+            name.now cond undefined) }
+        ensures unchanged { OnErr result (SetsNothing store.old store.new self.old self.new) }
+        ensures one_body { HasOneBody store.old self.old → HasOneBody store.new self.new }
     {
         self.set(store, name, cond, &Meaning::Undefined)
     }
 
-    /// What a name means under a condition: at each assignment where the condition holds, one of the
-    /// alternatives holds and has the meaning; elsewhere none does. Each holds under an assignment.
+    /// Whether a name is no macro in any configuration. Asks no condition and takes no memory.
+    pub fn is_no_macro(&self, name: &[u8]) -> bool
+        ensures nowhere { IsTrue result → (diagram : Diagram) (values : List Bool)
+            → meaning_in diagram self.now values name.now ≡ undefined }
+        ensures exact { (diagram : Diagram) → IsTableOf diagram self.now
+            → IsTrue result ↔ IsNoMacro diagram self.now name.now }
+    {
+        self.find(name).is_empty()
+    }
+
+    /// What a name means under a condition: the parts of the condition in which it has one meaning
+    /// each, no two of which have the same.
     pub fn alternatives(
         &self,
         store: &mut Store,
@@ -115,12 +135,16 @@ impl MacroTable {
         requires cond { IsNode store.old cond }
         requires nodes { IsTableOf store.old self.now }
         ensures keeps { Keeps store.old store.new }
-        ensures nodes { IfOk result (λ parts. AllNodes store.new parts) }
-        ensures hold { IfOk result (λ parts. AllHold store.new parts) }
-        ensures disjoint { IfOk result (λ parts. AllPairs (λ one other. AreDisjoint store.new one.cond other.cond) parts) }
-        ensures together { IfOk result (λ parts. (values : List Bool) → IsTrue (holds store.old cond values) ↔ Any (λ part. IsTrue (holds store.new part.cond values)) parts) }
-        ensures meanings { IfOk result (λ parts. (values : List Bool) → meanings store.new values parts
-            ≡ (if holds store.old cond values then meaning_in store.old self.now values name.now ∷ [] else [])) }
+        ensures partition { IfOk result
+            (λ parts. IsPartition store.new cond (conditions parts)) }
+        ensures meaning { IfOk result (λ parts. All (λ part. (values : List Bool)
+            → holds store.new part.cond values ≡ true
+            → macro_of part.meaning ≡ meaning_in store.old self.now values name.now) parts) }
+        ensures distinct { IfOk result (λ parts. AllPairs MeansOther parts) }
+        ensures meanings { IfOk result
+            (λ parts. (values : List Bool) → meanings store.new values parts
+            ≡ (if holds store.old cond values
+            then meaning_in store.old self.now values name.now ∷ [] else [])) }
     {
         split(self.alloc, store, self.find(name), cond)
     }

@@ -117,7 +117,8 @@ fn assert_offsets<R: Abort>(
     Ok(())
 }
 
-/// A name, what it is replaced by, the file and the offset of its definition, and whether it is defined.
+/// A name, what it is replaced by, the file and the offset of its definition, and whether it is
+/// defined.
 type Row = (&'static str, &'static str, u32, u64, bool);
 
 fn is_number(token: &PpTok, text: &str) -> bool {
@@ -215,8 +216,7 @@ fn a_name_defined_under_one_option_has_two_alternatives(rt: HostRuntime) -> Resu
     set(alloc, &mut table, &mut store, 0, 7)?;
     let on = store.var(0)?;
     let off = store.not(on)?;
-    let always = store.truth();
-    let parts = table.alternatives(&mut store, b"X", always)?;
+    let parts = alternatives_of(&table, &mut store, b"X")?;
     let [first, second] = parts.as_slice() else {
         return Err(Fail::from("two alternatives"));
     };
@@ -229,5 +229,71 @@ fn a_name_defined_under_one_option_has_two_alternatives(rt: HostRuntime) -> Resu
     assert_eq!(rt; undefined.cond, off);
     assert!(rt; matches!(&defined.meaning, Meaning::Defined { place, .. } if place.offset == 7));
     assert!(rt; matches!(&undefined.meaning, Meaning::Undefined));
+    Ok(())
+}
+
+/// The alternatives of a name.
+fn alternatives_of(
+    table: &MacroTable,
+    store: &mut Store,
+    name: &[u8],
+) -> Result<List<Alternative>, Memory>
+    requires variables { store.old.variables ≡ 3 }
+    requires nodes { IsTableOf store.old table.now }
+    ensures variables { store.new.variables ≡ 3 }
+    ensures nodes { IsTableOf store.new table.now }
+{
+    let always = store.truth();
+    table.alternatives(store, name, always)
+}
+
+/// Asserts whether a name is no macro anywhere.
+fn assert_no_macro<R: Abort>(rt: &R, table: &MacroTable, name: &[u8], is_none: bool) {
+    assert_eq!(rt; table.is_no_macro(name), is_none);
+}
+
+/// Asserts that `X` has so many alternatives once it is set.
+fn assert_counts<R: Abort>(
+    rt: &R,
+    alloc: Global,
+    table: &mut MacroTable,
+    store: &mut Store,
+    steps: &[(u32, u64, usize)],
+) -> Result<(), Memory>
+    requires variables { store.old.variables ≡ 3 }
+    requires nodes { IsTableOf store.old table.old }
+{
+    for (k, offset, count) in steps {
+        set(alloc, table, store, *k, *offset)?;
+        let found = alternatives_of(table, store, b"X")?.len();
+        assert_eq!(rt; found, *count, "after option {k} at {offset}");
+    }
+    Ok(())
+}
+
+/// Each row sets `X` under an option, at an offset or 0 for a removal, and has how many
+/// alternatives `X` has then.
+#[test]
+fn no_two_alternatives_have_one_meaning(rt: HostRuntime) -> Result<(), Fail> {
+    let alloc = rt.alloc();
+    let model = read_model(alloc, MODEL.as_bytes())?;
+    assert_eq!(rt; model.options(), 3);
+    let mut store = Store::new(alloc, 3)?;
+    let mut table = MacroTable::new(alloc, &model, &mut store)?;
+    let steps: [(u32, u64, usize); 10] = [
+        (0, 0, 1),
+        (1, 0, 1),
+        (2, 0, 1),
+        (0, 5, 2),
+        (1, 6, 3),
+        (2, 5, 3),
+        (1, 5, 2),
+        (1, 0, 2),
+        (0, 0, 2),
+        (2, 0, 1),
+    ];
+    assert_counts(&rt, alloc, &mut table, &mut store, &steps)?;
+    assert_no_macro(&rt, &table, b"X", true);
+    assert_no_macro(&rt, &table, b"A", false);
     Ok(())
 }

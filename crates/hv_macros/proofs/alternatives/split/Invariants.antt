@@ -1,4 +1,4 @@
-use Rattle.hv_macros.proofs.AlternativeLemmas.{IsSplitting}
+use Rattle.hv_macros.proofs.SplitLemmas.{IsSplitting}
 use Rattle.hv_macros.proofs.alternatives.split.Given as goal
 
 abbrev pub invariant-loop-alternative : goal.invariant-loop-alternative

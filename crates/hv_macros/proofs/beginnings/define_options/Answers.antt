@@ -12,6 +12,11 @@ define_number-requires-clause-nodes c = opening_nodes c.loop-i.invariant c.var.e
 
 pub loop-i-preserved : goal.loop-i-preserved
 loop-i-preserved c =
-    opening_step c.args.store.now c.loop-i.store c.var.new.self c.define_number.new.store c.args.table.now c.loop-i.table c.define_number.new.table c.args.model.now.names c.loop-i.i c.as_bytes-name.result.now c.in_ok-on.on
-    c.loop-i.invariant (omega arith) (sym (get_or_from_slice_get c.args.model.now.names c.loop-i.i c.as_bytes-name.result.now c.as_bytes-name.result.now (c.name.ensures ∙ ap Some (sym c.as_bytes-name.ensures.value))))
-    c.in_ok-on.ensures.keeps c.in_ok-define_number.ensures.keeps c.in_ok-define_number.ensures.nodes c.in_ok-on.ensures.meaning c.in_ok-define_number.ensures.defined
+    opening_step c.args.store.now c.loop-i.store c.var.new.self c.define_number.new.store
+    c.args.table.now c.loop-i.table c.define_number.new.table c.args.model.now.names c.loop-i.i
+    c.as_bytes-name.result.now c.in_ok-on.on
+    c.loop-i.invariant (omega arith)
+    (sym (get_or_from_slice_get c.args.model.now.names c.loop-i.i c.as_bytes-name.result.now
+    c.as_bytes-name.result.now (c.name.ensures ∙ ap Some (sym c.as_bytes-name.ensures.value))))
+    c.in_ok-on.ensures.keeps c.in_ok-define_number.ensures.keeps c.in_ok-define_number.ensures.nodes
+    c.in_ok-on.ensures.meaning c.in_ok-define_number.ensures.defined
