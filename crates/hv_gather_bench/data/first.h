@@ -1,0 +1,2 @@
+#include "second.h"
+#include <none.h>
