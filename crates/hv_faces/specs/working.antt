@@ -1,0 +1,2 @@
+-- What the loop over faces has found when it ends.
+pub mod Gathered
