@@ -1,5 +1,6 @@
 pub mod Branches
 pub mod Canonical
+pub mod Chains
 pub mod Combining
 pub mod Complementing
 pub mod Counts

@@ -1,18 +1,19 @@
 -- Lemmas on the table of nodes.
-use Rattle.std.proofs.Common.{Result, Ok, Err, OnOk, OnErr, IfOk, ◌≡◌, ◌+◌, ◌-◌, ◌<◌, ◌≤◌, ℕ, Bool, cond, List, [], ◌∷◌, ◌++◌, length, get_or, reverse, Option, Some, refl, sym, ap, ◌∙◌, subst, ⊎_elim, arith}
-use Rattle.std.specs.HashMap.{get}
+use Rattle.std.proofs.Common.{Result, Ok, Err, OnOk, OnErr, IfOk, ◌≡◌, ◌+◌, ◌-◌, ◌<◌, ◌≤◌, ℕ, Bool, List, [], ◌∷◌, ◌++◌, length, length-append, get_or, reverse, refl, sym, ap, ◌∙◌, subst, ⊎_elim, arith}
 use Rattle.std.specs.declared.alloc.AllocError.{AllocError}
 use Rattle.std.proofs.lemmas.Bool.{cond_both, cases_eq}
 use Rattle.std.proofs.lemmas.List.{get_or-reverse, reverse-append, length-reverse, append_assoc}
+use Rattle.std.proofs.Math.Seq.{get_or-append_seam}
 use Rattle.std.proofs.lemmas.Grind.{get_or_head, get_or_tail}
 use Rattle.hv_cond.specs.declared.conditions.Cond.{Cond}
 use Rattle.hv_cond.specs.declared.conditions.Node.TheVariants.{Branch}
 use Rattle.hv_cond.specs.declared.nodes.Decision.{Decision}
 use Rattle.hv_cond.specs.declared.nodes.Nodes.{Nodes}
 use Rattle.hv_cond.specs.Diagram.{top, value_of, node_in, holds_in}
-use Rattle.hv_cond.specs.working.Nodes.{choice, newest_first, level, place_of, same_decision, IsDecision, IsOrdered, IsBranch, IsHalves, IsReduced, IsClosed, Extends}
+use Rattle.hv_cond.specs.working.Nodes.{choice, newest_first, level, IsDecision, IsOrdered, IsBranch, IsHalves, IsReduced, IsClosed, Extends}
+use Rattle.hv_cond.specs.working.Places.{IsPlaced}
 use Rattle.hv_cond.proofs.Lifts.{node_lifts, holds_in-append, node_in-append, level-append, IsClosed-append}
-use Rattle.hv_cond.proofs.Branches.{Decision-same, Cond-same, node_in-top, node_in-below, holds_in-top, branch_of}
+use Rattle.hv_cond.proofs.Branches.{Decision-same, node_in-top, node_in-below, holds_in-top, branch_of}
 
 -- a node that is no terminal is the branch at its place
 pub node_in-get_or : (ds : List Decision) (c : Cond) (k : ℕ) (e : Decision) → 2 ≤ c.index → k + c.index ≡ length ds + 1 → let d = get_or ds k e in node_in ds c ≡ Branch d.variable d.low d.high
@@ -43,33 +44,33 @@ branch_at_place n xs o c node t r read =
     subst (IsBranch n (reverse xs) c) (Decision-same d r (cc) (cc) (cc)) f
 
 -- the empty table
-pub IsReduced-empty : (nodes : Nodes) → nodes.decisions.items ≡ [] → nodes.places.entries ≡ [] → IsReduced nodes
-unfolding place_of
-IsReduced-empty nodes items entries = record { ordered = rw items tt; placed = λ e. rw (items, entries) refl }
+pub IsReduced-empty : (nodes : Nodes) → nodes.decisions.items ≡ [] → IsPlaced nodes.places [] → IsReduced nodes
+IsReduced-empty nodes items placed = record { ordered = rw items tt; placed = rw items placed }
 
--- the table is the same, with its map of places in another order
-pub IsReduced-same : (old new : Nodes) → new.variables ≡ old.variables → new.decisions.items ≡ old.decisions.items → ((q : Decision) → get same_decision new.places q ≡ get same_decision old.places q) → IsReduced old → IsReduced new
-IsReduced-same old new vars items places r =
-    record {
-      ordered = rw (vars, items) r.ordered;
-      placed = λ e. places e ∙ r.placed e ∙ ap (λ (xs : List Decision). place_of (reverse xs) e) (sym items);
-    }
+-- the table is the same, with other buckets
+pub IsReduced-same : (old new : Nodes) → new.variables ≡ old.variables → new.decisions.items ≡ old.decisions.items → IsPlaced new.places (newest_first old) → IsReduced old → IsReduced new
+IsReduced-same old new vars items placed r =
+    record { ordered = rw (vars, items) r.ordered; placed = rw items placed }
 
 -- the newest branch stands first
 pub newest_first-push : (old new : Nodes) (d : Decision) → new.decisions.items ≡ old.decisions.items ++ d ∷ [] → newest_first new ≡ d ∷ newest_first old
 newest_first-push old new d items = ap (λ (xs : List Decision). reverse xs) items ∙ reverse-append old.decisions.items (d ∷ [])
 
 -- the table has one more branch
-pub IsReduced-push : (old new : Nodes) (d : Decision) (place : Cond) → new.variables ≡ old.variables → new.decisions.items ≡ old.decisions.items ++ d ∷ [] → IsDecision old.variables (newest_first old) d
-    → place.index ≡ top (newest_first old) → ((q : Decision) → get same_decision new.places q ≡ cond (same_decision d q) (Some place) (get same_decision old.places q)) → IsReduced old → IsReduced new
-unfolding place_of
-IsReduced-push old new d place vars items fresh at places r =
+pub IsReduced-push : (old new : Nodes) (d : Decision) → new.variables ≡ old.variables → new.decisions.items ≡ old.decisions.items ++ d ∷ [] → IsDecision old.variables (newest_first old) d
+    → IsPlaced new.places (d ∷ newest_first old) → IsReduced old → IsReduced new
+IsReduced-push old new d vars items fresh placed r =
     let newest = newest_first-push old new d items in
-    let here : place ≡ record { index = top (newest_first old) } = Cond-same _ _ at in
-    record {
-      ordered = rw (vars, newest) (fresh, r.ordered);
-      placed = λ e. places e ∙ ap (λ (x : Option Cond). cond (same_decision d e) (Some place) x) (r.placed e) ∙ ap (λ (x : Cond). cond (same_decision d e) (Some x) (place_of (newest_first old) e)) here ∙ sym (ap (λ (ds : List Decision). place_of ds e) newest);
-    }
+    record { ordered = rw (vars, newest) (fresh, r.ordered); placed = rw newest placed }
+
+-- what stands in the table at the place of one of its branches
+pub at_index : (xs newer older : List Decision) (d r : Decision) → reverse xs ≡ newer ++ d ∷ older → r ≡ get_or xs (length older) r → r ≡ d
+at_index xs newer older d r split read =
+    let len : length (reverse xs) ≡ length newer + (length older + 1) = ap length split ∙ length-append newer (d ∷ older) ∙ omega arith in
+    let all = length-reverse xs in
+    let back : get_or (reverse xs) (length newer) r ≡ get_or xs (length xs - 1 - length newer) r = get_or-reverse xs (length newer) r (omega arith) in
+    let place : length xs - 1 - length newer ≡ length older = omega arith in
+    read ∙ ap (λ (i : ℕ). get_or xs i r) (sym place) ∙ sym back ∙ ap (λ (ys : List Decision). get_or ys (length newer) r) split ∙ get_or-append_seam newer d older r
 
 -- a table with at most one more branch extends the old one
 pub Extends-push : (old new : Nodes) (d : Decision) (r : Result Cond AllocError) → new.variables ≡ old.variables → OnOk r (newest_first new ≡ d ∷ newest_first old) → OnErr r (newest_first new ≡ newest_first old) → Extends old new

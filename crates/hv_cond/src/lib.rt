@@ -9,6 +9,7 @@ mod meetings;
 mod nodes;
 mod orders;
 mod paths;
+mod places;
 mod results;
 mod stores;
 

@@ -1,15 +1,16 @@
 //! The table of nodes, in which no branch is superfluous and none stands twice.
 ghost use Rattle.std.specs.Prelude.{◌≡◌, ◌≢◌, ℕ, ◌+◌, ◌<◌, ◌≤◌, [], ◌∷◌, ◌++◌, List, Bool, is_ok, length, if◌then◌else◌, IfNone, IfOk, IfSome, OnErr, OnOk};
 ghost use Rattle.hv_cond.specs.Diagram.{holds_in, node_in, top, value_of};
+ghost use Rattle.hv_cond.specs.working.Places.{buckets};
 ghost use Rattle.hv_cond.specs.working.Nodes.{choice, level, newest_first, place_of, Extends, IsBranch, IsDecision, IsHalves, IsReduced, MayBranch};
 
 use crate::conditions::{Cond, Node};
+use crate::places::Places;
 use std::alloc::{AllocError, Global};
-use std::collections::HashMap;
 use std::mem::size_of;
 
 /// A branch: `high` where the variable is true, and `low` where it is not.
-#[derive(Clone, Copy, PartialEq, Eq, Hash, Debug)]
+#[derive(Clone, Copy, PartialEq, Eq, Debug)]
 pub(crate) struct Decision {
     pub(crate) variable: u32,
     pub(crate) low: Cond,
@@ -24,7 +25,7 @@ const _: () = prove!(size_of::<Decision>() == 12);
 pub(crate) struct Nodes {
     pub(crate) variables: u32,
     pub(crate) decisions: Vec<Decision>,
-    pub(crate) places: HashMap<Decision, Cond>,
+    pub(crate) places: Places,
 }
 
 impl Nodes {
@@ -36,7 +37,7 @@ impl Nodes {
         Nodes {
             variables,
             decisions: Vec::new(alloc),
-            places: HashMap::new(alloc),
+            places: Places::new(alloc),
         }
     }
 
@@ -134,12 +135,20 @@ impl Nodes {
         }
     }
 
-    /// Where the table has a branch.
+    /// Where the table has a branch: its bucket's chain is gone down.
     fn find(&self, decision: &Decision) -> Option<Cond>
         requires { IsReduced self.now }
         ensures { result ≡ place_of (newest_first self.now) decision.now }
     {
-        self.places.get(decision).copied()
+        let mut index = self.places.newest(*decision);
+        while index != 0 {
+            let at = (index - 2) as usize;
+            if self.decisions[at] == *decision {
+                return Some(Cond { index });
+            }
+            index = self.places.before[at];
+        }
+        None
     }
 
     /// Enters a branch that the table does not have.
@@ -156,12 +165,30 @@ impl Nodes {
         let Ok(index) = u32::try_from(self.decisions.len() + 2) else {
             return Err(AllocError);
         };
-        let place = Cond { index };
-        self.places.reserve(1)?;
-        self.decisions.push(decision)?;
-        let Ok(_) = self.places.insert(decision, place) else {
+        self.make_room()?;
+        self.decisions.reserve(1)?;
+        self.places.enter(decision, index)?;
+        let Ok(_) = self.decisions.push(decision) else {
             unreachable!()
         };
-        Ok(place)
+        Ok(Cond { index })
+    }
+
+    /// Has a bucket for one more branch: where there is none, twice as many.
+    fn make_room(&mut self) -> Result<(), AllocError>
+        requires reduced { IsReduced self.old }
+        requires few { length self.old.decisions.items + 2 < 4294967296 }
+        ensures variables { self.new.variables ≡ self.old.variables }
+        ensures branches { self.new.decisions ≡ self.old.decisions }
+        ensures reduced { IsReduced self.new }
+        ensures room { OnOk result (length self.new.decisions.items < buckets self.new.places) }
+    {
+        let branches = self.decisions.len();
+        if branches < self.places.room() {
+            return Ok(());
+        }
+        let alloc = *self.decisions.allocator();
+        self.places = Places::rebuilt(alloc, &self.decisions, 2 * branches + 1024)?;
+        Ok(())
     }
 }

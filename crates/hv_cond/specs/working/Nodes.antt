@@ -2,12 +2,12 @@
 -- in order. In the table a variable is named by its position in the store's order, so here the
 -- order is that of the numbers.
 use Rattle.std.specs.Prelude.{◌≡◌, ◌≢◌, ◌==◌, ◌<◌, ◌≤◌, ℕ, Bool, ◌&&◌, ◌⊎◌, if◌then◌else◌, List, [], ◌∷◌, ◌++◌, reverse, Option, Some, None}
-use Rattle.std.specs.HashMap.{get}
 use Rattle.hv_cond.specs.declared.conditions.Cond.{Cond}
 use Rattle.hv_cond.specs.declared.nodes.Decision.{Decision}
 use Rattle.hv_cond.specs.declared.nodes.Nodes.{Nodes}
 use Rattle.hv_cond.specs.declared.conditions.Node.TheVariants.{Branch}
 use Rattle.hv_cond.specs.Diagram.{top, value_of, node_in, holds_in}
+use Rattle.hv_cond.specs.working.Places.{IsPlaced}
 
 -- the branches of the table, the newest first
 abbrev pub newest_first : Nodes → List Decision
@@ -103,7 +103,7 @@ pub record Extends (old new : Nodes) : Type 0 where
   pub added : List Decision
   pub decisions : newest_first new ≡ added ++ newest_first old
 
--- the table is in order, and its map of places has each branch
+-- the table is in order, and its buckets have each branch
 pub record IsReduced (nodes : Nodes) : Type 0 where
   pub ordered : IsOrdered nodes.variables (newest_first nodes)
-  pub placed : (e : Decision) → get same_decision nodes.places e ≡ place_of (newest_first nodes) e
+  pub placed : IsPlaced nodes.places (newest_first nodes)
