@@ -57,6 +57,3 @@ pub fn gather<F: Files>(
     }
     Ok(search.into_bundle())
 }
-
-#[cfg(test)]
-mod tests;
