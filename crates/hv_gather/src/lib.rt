@@ -57,3 +57,6 @@ pub fn gather<F: Files>(
     }
     Ok(search.into_bundle())
 }
+
+#[cfg(test)]
+mod tests;
