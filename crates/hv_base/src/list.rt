@@ -93,6 +93,13 @@ impl<T> List<T> {
     {
         self.items.as_slice()
     }
+
+    /// All items by value, in order.
+    pub fn into_vec(self) -> Vec<T>
+        ensures { result.items ≡ self }
+    {
+        self.items
+    }
 }
 
 impl<T: Drop> List<T> {

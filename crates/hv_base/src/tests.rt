@@ -42,6 +42,7 @@ fn lists_are_equal_where_their_items_are(rt: HostRuntime) -> Result<(), Fail> {
     assert_eq!(rt; text.len(), 3);
     assert_eq!(rt; text.replace(1, b'x'), b'b');
     assert!(rt; text.is_text(b"axc"));
+    assert_eq!(rt; text.into_vec().as_slice(), b"axc".as_slice());
     Ok(())
 }
 
