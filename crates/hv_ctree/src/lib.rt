@@ -20,8 +20,8 @@ pub use tree::specifier::{
 };
 pub use tree::stmt::{BlockItem, ExternalDeclaration, FunctionDefinition, Program, Stmt};
 pub use tree::words::{
-    AssignmentOperator, BinaryOperator, Constant, Selector, Step, StorageClass, StructOrUnion, Tag,
-    TypeQualifier, UnaryOperator,
+    AssignmentOperator, Constant, Selector, Step, StorageClass, StructOrUnion, Tag, TypeQualifier,
+    UnaryOperator,
 };
 pub use type_table::Types;
 pub use types::{CType, CompoundType, IntKind, Layout, Member, Shape};

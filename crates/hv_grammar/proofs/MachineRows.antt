@@ -6,7 +6,7 @@ use Rattle.hv_base.specs.declared.keyword.Keyword.TheVariants as keywords
 use Rattle.hv_base.specs.declared.punct.Punct.TheVariants as puncts
 use Rattle.hv_base.specs.declared.why.Why.TheVariants.{Syntax, TooDeep}
 use Rattle.hv_ctree.specs.declared.tree.words.AssignmentOperator.TheVariants.{Plain}
-use Rattle.hv_ctree.specs.declared.tree.words.BinaryOperator.TheVariants as binaries
+use Rattle.hv_base.specs.declared.operator.BinaryOperator.TheVariants as binaries
 use Rattle.hv_ctree.specs.declared.tree.words.UnaryOperator.TheVariants.{Indirection}
 use Rattle.hv_ctree.specs.tree.Expressions.{identifier, unary, cast, sizeof_type, binary, assign, comma, call, no_arguments, then_argument, type_name, no_specifiers, then_specifier, of_type, word, int_word, typedef_name, no_pointers, then_pointer, no_qualifiers, no_declarator, some_declarator, declarator, nothing, group, no_suffixes, then_suffix, function, parameter_types, no_parameters, then_parameter, parameter, enumeration, listed, no_tag, no_enumerators, then_enumerator, plain}
 use Rattle.hv_grammar.specs.Symbols.{Symbol, keyword, name, marked, sign, Token, token_at, left_paren, right_paren, left_bracket, right_bracket, left_brace, right_brace, comma_sign, colon, semicolon, equal_sign}

@@ -5,7 +5,7 @@ use Rattle.hv_base.specs.declared.place.Place.{Place}
 use Rattle.hv_base.specs.declared.keyword.Keyword.TheVariants as keywords
 use Rattle.hv_base.specs.declared.punct.Punct.TheVariants as puncts
 use Rattle.hv_ctree.specs.declared.tree.words.AssignmentOperator.{AssignmentOperator}
-use Rattle.hv_ctree.specs.declared.tree.words.BinaryOperator.{BinaryOperator}
+use Rattle.hv_base.specs.declared.operator.BinaryOperator.{BinaryOperator}
 use Rattle.hv_ctree.specs.declared.tree.words.Selector.{Selector}
 use Rattle.hv_ctree.specs.declared.tree.words.Step.{Step as StepSign}
 use Rattle.hv_ctree.specs.declared.tree.words.StructOrUnion.{StructOrUnion}

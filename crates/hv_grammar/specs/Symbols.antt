@@ -8,8 +8,8 @@ use Rattle.hv_base.specs.declared.punct.Punct.{Punct}
 use Rattle.hv_base.specs.declared.punct.Punct.TheVariants as puncts
 use Rattle.hv_ctree.specs.declared.tree.words.AssignmentOperator.{AssignmentOperator}
 use Rattle.hv_ctree.specs.declared.tree.words.AssignmentOperator.TheVariants as assignments
-use Rattle.hv_ctree.specs.declared.tree.words.BinaryOperator.{BinaryOperator}
-use Rattle.hv_ctree.specs.declared.tree.words.BinaryOperator.TheVariants as binaries
+use Rattle.hv_base.specs.declared.operator.BinaryOperator.{BinaryOperator}
+use Rattle.hv_base.specs.declared.operator.BinaryOperator.TheVariants as binaries
 use Rattle.hv_ctree.specs.declared.tree.words.Constant.{Constant}
 use Rattle.hv_ctree.specs.declared.tree.words.Selector.{Selector}
 use Rattle.hv_ctree.specs.declared.tree.words.Selector.TheVariants as selectors

@@ -4,7 +4,7 @@ use Rattle.std.specs.declared.rc.Rc.{Rc}
 use Rattle.std.specs.declared.alloc.Global.{Global}
 use Rattle.hv_ctree.specs.declared.tree.expr.Expr.{Expr}
 use Rattle.hv_ctree.specs.declared.tree.expr.Expr.TheVariants.{Identifier, Constant, StringLiteral, Parenthesized', Subscript', Call', Member', Arrow', PostIncrement', PostDecrement', PreIncrement', PreDecrement', Unary', SizeofExpr', SizeofType', Cast', Multiply', Divide', Remainder', Add', Subtract', ShiftLeft', ShiftRight', Less', Greater', LessEqual', GreaterEqual', Equal', NotEqual', And', ExclusiveOr', Or', LogicalAnd', LogicalOr', Conditional', Assign', Comma'}
-use Rattle.hv_ctree.specs.declared.tree.words.BinaryOperator.TheVariants.{Multiply as MultiplySign, Divide as DivideSign, Remainder as RemainderSign, Add as AddSign, Subtract as SubtractSign, ShiftLeft as ShiftLeftSign, ShiftRight as ShiftRightSign, Less as LessSign, Greater as GreaterSign, LessEqual as LessEqualSign, GreaterEqual as GreaterEqualSign, Equal as EqualSign, NotEqual as NotEqualSign, And as AndSign, ExclusiveOr as ExclusiveOrSign, Or as OrSign, LogicalAnd as LogicalAndSign, LogicalOr as LogicalOrSign}
+use Rattle.hv_base.specs.declared.operator.BinaryOperator.TheVariants.{Multiply as MultiplySign, Divide as DivideSign, Remainder as RemainderSign, Add as AddSign, Subtract as SubtractSign, ShiftLeft as ShiftLeftSign, ShiftRight as ShiftRightSign, Less as LessSign, Greater as GreaterSign, LessEqual as LessEqualSign, GreaterEqual as GreaterEqualSign, Equal as EqualSign, NotEqual as NotEqualSign, And as AndSign, ExclusiveOr as ExclusiveOrSign, Or as OrSign, LogicalAnd as LogicalAndSign, LogicalOr as LogicalOrSign}
 use Rattle.hv_ctree.specs.declared.tree.words.Selector.TheVariants.{Dot, Arrow as ArrowSign}
 use Rattle.hv_ctree.specs.declared.tree.words.Step.TheVariants.{Increment, Decrement}
 use Rattle.hv_ctree.specs.declared.tree.words.Tag.{Tag}

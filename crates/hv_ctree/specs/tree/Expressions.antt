@@ -5,7 +5,7 @@
 use Rattle.std.specs.Prelude.{ℕ, Bool, List}
 use Rattle.hv_base.specs.declared.place.Place.{Place}
 use Rattle.hv_ctree.specs.declared.tree.words.AssignmentOperator.{AssignmentOperator}
-use Rattle.hv_ctree.specs.declared.tree.words.BinaryOperator.{BinaryOperator}
+use Rattle.hv_base.specs.declared.operator.BinaryOperator.{BinaryOperator}
 use Rattle.hv_ctree.specs.declared.tree.words.Constant.{Constant}
 use Rattle.hv_ctree.specs.declared.tree.words.Selector.{Selector}
 use Rattle.hv_ctree.specs.declared.tree.words.Step.{Step}

@@ -33,29 +33,6 @@ pub enum UnaryOperator {
     Not,
 }
 
-/// The operator between two operands (6.5.5 to 6.5.14).
-#[derive(Clone, Copy, Debug, PartialEq, Eq)]
-pub enum BinaryOperator {
-    Multiply,
-    Divide,
-    Remainder,
-    Add,
-    Subtract,
-    ShiftLeft,
-    ShiftRight,
-    Less,
-    Greater,
-    LessEqual,
-    GreaterEqual,
-    Equal,
-    NotEqual,
-    And,
-    ExclusiveOr,
-    Or,
-    LogicalAnd,
-    LogicalOr,
-}
-
 /// `assignment-operator` (6.5.16); `Plain` is `=`.
 #[derive(Clone, Copy, Debug, PartialEq, Eq)]
 pub enum AssignmentOperator {

@@ -6,7 +6,7 @@ use Rattle.hv_base.specs.declared.keyword.Keyword.TheVariants as keywords
 use Rattle.hv_base.specs.declared.punct.Punct.{Punct}
 use Rattle.hv_base.specs.declared.punct.Punct.TheVariants as puncts
 use Rattle.hv_ctree.specs.declared.tree.words.AssignmentOperator.TheVariants as assignments
-use Rattle.hv_ctree.specs.declared.tree.words.BinaryOperator.TheVariants as binaries
+use Rattle.hv_base.specs.declared.operator.BinaryOperator.TheVariants as binaries
 use Rattle.hv_ctree.specs.declared.tree.words.Selector.{Selector}
 use Rattle.hv_ctree.specs.declared.tree.words.Selector.TheVariants.{Dot, Arrow}
 use Rattle.hv_ctree.specs.declared.tree.words.Step.TheVariants.{Increment, Decrement}
