@@ -1,0 +1,9 @@
+pub mod Definitions
+pub mod Directives
+pub mod Expressions
+pub mod Files
+pub mod Groups
+pub mod Lines
+pub mod Preprocessing
+pub mod Reading
+pub mod Text
