@@ -1,0 +1,8 @@
+-- One preprocessing token and the C token that it becomes. Read Floating, then Conversion (what a
+-- preprocessing token becomes), Joining (adjacent string literals), Spelling (how a C token is
+-- printed) and Tokens (which C tokens there are).
+pub mod Conversion
+pub mod Floating
+pub mod Joining
+pub mod Spelling
+pub mod Tokens
