@@ -1,5 +1,17 @@
-//! Preprocessing in one configuration (ISO/IEC 9899:1999, 6.10), as a definition.
+//! Preprocessing in one configuration (ISO/IEC 9899:1999, 6.10), as a definition, and what is proved
+//! of it.
 #![tactic(auto)]
 
-/// Does nothing.
-pub fn nothing() {}
+ghost use Rattle.hv_plainpp.specs.Laws.{OrdinaryText, TruthIsDerived};
+
+/// Does nothing. Its contract says that the truth that the definition computes of a controlling
+/// expression (6.10.1) is the one that its grammar derives.
+pub fn truth_is_derived()
+    ensures { TruthIsDerived }
+{}
+
+/// Does nothing. Its contract says that a file without directives and without names of macros gives
+/// its own tokens, each by itself at its own place.
+pub fn ordinary_text_is_kept()
+    ensures { OrdinaryText }
+{}

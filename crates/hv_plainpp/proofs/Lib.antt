@@ -1,0 +1,3 @@
+pub mod ExpressionTrees
+pub mod OrdinaryText
+mod Rows
