@@ -9,7 +9,11 @@ use Rattle.hv_base.specs.declared.why.Why.{Why}
 use Rattle.hv_base.specs.declared.why.Why.TheVariants.{OpenComment, BadDirective, Unbalanced, BadCondition, ErrorDirective, NoFile, IncludeTooDeep, BadDefine, BadInvocation, DirectiveInArguments, BadPaste, BadConstant, Syntax, TooDeep, Reserved}
 use Rattle.hv_ctoks.specs.declared.reserved.ReservedNames.TheVariants.{Allowed, Refused}
 use Rattle.hv_model.specs.Beginning.{beginning}
+use Rattle.hv_plain.specs.episode.Episode.{episode}
+use Rattle.hv_plain.specs.episode.Expansion.{run}
 use Rattle.hv_plain.specs.gathering.Headers.{text_of_lines}
+use Rattle.hv_plain.specs.gathering.Mentions.{cut_text}
+use Rattle.hv_plainpp.specs.Expressions.{trees}
 use Rattle.hv_plainpp.specs.CTokens.{Identity, given}
 use Rattle.hv_plainpp.specs.Plainpp.{plainpp}
 use Rattle.hv_plainpp.specs.Preprocessing.{unit, entered}
@@ -55,10 +59,91 @@ seen r = seen_by r.met r.ending
 abbrev left : NamedFiles → (on : Bool) → Seen
 left bundle on = seen (unit bundle (options on))
 
-open_comment : left (alone (codes "a /* b")) true ≡ Refuses OpenComment (at [] 0 2)
-unfolding entered
+------ refusals, each at its place
+
+open_comment : left (alone (codes "a /* b")) true
+    ≡ Refuses OpenComment (at [] 0 2)
+unfolding entered cut_text episode run trees
 open_comment = refl
 
-ordinary : left (alone (codes "A x")) true ≡ Gives (codes " 1 x")
-unfolding entered
-ordinary = refl
+no_directive : left (alone (text_of_lines (codes "x" ∷ codes "#y" ∷ []))) true
+    ≡ Refuses BadDirective (at [] 0 2)
+unfolding entered cut_text episode run trees
+no_directive = refl
+
+no_name : left (alone (text_of_lines (codes "#ifdef" ∷ []))) true
+    ≡ Refuses BadDirective (at [] 0 0)
+unfolding entered cut_text episode run trees
+no_name = refl
+
+no_header : left (alone (text_of_lines (codes "#include h" ∷ []))) true
+    ≡ Refuses BadDirective (at [] 0 0)
+unfolding entered cut_text episode run trees
+no_header = refl
+
+lone_else : left (alone (text_of_lines (codes "#else" ∷ []))) true
+    ≡ Refuses Unbalanced (at [] 0 0)
+unfolding entered cut_text episode run trees
+lone_else = refl
+
+-- also in a skipped group
+behind_else : left (alone (text_of_lines (codes "#if 0" ∷ codes "#if 1" ∷ codes "#else" ∷ codes "#elif 1" ∷ []))) true
+    ≡ Refuses Unbalanced (at [] 0 18)
+unfolding entered cut_text episode run trees
+behind_else = refl
+
+open_group_at_end : left (alone (text_of_lines (codes "#ifdef A" ∷ codes "#ifdef B" ∷ []))) true
+    ≡ Refuses Unbalanced (at [] 0 9)
+unfolding entered cut_text episode run trees
+open_group_at_end = refl
+
+no_expression : left (alone (text_of_lines (codes "#if" ∷ []))) true
+    ≡ Refuses BadCondition (at [] 0 0)
+unfolding entered cut_text episode run trees
+no_expression = refl
+
+by_zero : left (alone (text_of_lines (codes "#if 1/0" ∷ []))) true
+    ≡ Refuses BadCondition (at [] 0 0)
+unfolding entered cut_text episode run trees
+by_zero = refl
+
+error_line : left (alone (text_of_lines (codes "#ifndef A" ∷ codes "#error A" ∷ codes "#endif" ∷ []))) false
+    ≡ Refuses ErrorDirective (at [] 0 10)
+unfolding entered cut_text episode run trees
+error_line = refl
+
+no_error : left (alone (text_of_lines (codes "#ifndef A" ∷ codes "#error A" ∷ codes "#endif" ∷ []))) true
+    ≡ Gives []
+unfolding entered cut_text episode run trees
+no_error = refl
+
+no_file : left (alone (text_of_lines (codes "#ifdef A" ∷ (codes "#include " ++ 34 ∷ (codes "b" ++ 34 ∷ [])) ∷ codes "#endif" ∷ []))) true
+    ≡ Refuses NoFile (at [] 0 9)
+unfolding entered cut_text episode run trees
+no_file = refl
+
+kept_name : left (alone (text_of_lines (codes "#undef __STDC__" ∷ []))) true
+    ≡ Refuses BadDefine (at [] 0 0)
+unfolding entered cut_text episode run trees
+kept_name = refl
+
+not_closed : left (alone (text_of_lines (codes "#define f(x)" ∷ codes "x f(" ∷ []))) true
+    ≡ Refuses BadInvocation (at [] 0 15)
+unfolding entered cut_text episode run trees
+not_closed = refl
+
+before_directive : left (alone (text_of_lines (codes "#define f(x)" ∷ codes "f" ∷ codes "#" ∷ []))) true
+    ≡ Refuses DirectiveInArguments (at [] 0 13)
+unfolding entered cut_text episode run trees
+before_directive = refl
+
+no_paste : left (alone (text_of_lines (codes "#define p(x)x##+" ∷ codes "p(1)" ∷ []))) true
+    ≡ Refuses BadPaste (at [] 0 17)
+unfolding entered cut_text episode run trees
+no_paste = refl
+
+-- an episode of a controlling line
+on_a_line : left (alone (text_of_lines (codes "#define f(x)" ∷ codes "#if f(" ∷ []))) true
+    ≡ Refuses BadInvocation (at [] 0 17)
+unfolding entered cut_text episode run trees
+on_a_line = refl
