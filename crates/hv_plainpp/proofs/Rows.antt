@@ -354,3 +354,21 @@ in_an_expansion : c_tokens Refused (alone (text_of_lines (codes "#define x (@)" 
     ≡ inr (Syntax, at [] 0 16)
 unfolding entered cut_text episode run trees
 in_an_expansion = refl
+
+------ examples of the standard (6.10.3.5) and others, whole
+
+rescanned : left (alone (text_of_lines (codes "#define x 3" ∷ codes "#define f(a) f(x * (a))" ∷ codes "#undef x" ∷ codes "#define x 2" ∷ codes "#define g f" ∷ codes "#define z z[0]" ∷ codes "#define t(a) a" ∷ codes "f(y+1) + f(f(z)) % t(t(g)(0) + t)(1);" ∷ []))) true
+    ≡ Gives (codes " f ( 2 * ( y + 1 ) ) + f ( 2 * ( f ( 2 * ( z [ 0 ] ) ) ) ) % f ( 2 * ( 0 ) ) + t ( 1 ) ;")
+unfolding entered cut_text episode run trees
+rescanned = refl
+
+abbrev two_faces : NamedFiles
+two_faces = alone (text_of_lines (codes "int putchar(int);" ∷ codes "#ifdef A" ∷ codes "#define TWICE(x) ((x) + (x))" ∷ codes "#else" ∷ codes "#define TWICE(x) ((x) * 2 + 1)" ∷ codes "#endif" ∷ codes "#define SHOW(v) putchar(v)" ∷ codes "SHOW(TWICE(33));" ∷ []))
+
+with_a : left two_faces true ≡ Gives (codes " int putchar ( int ) ; putchar ( ( ( 33 ) + ( 33 ) ) ) ;")
+unfolding entered cut_text episode run trees
+with_a = refl
+
+without_a : left two_faces false ≡ Gives (codes " int putchar ( int ) ; putchar ( ( ( 33 ) * 2 + 1 ) ) ;")
+unfolding entered cut_text episode run trees
+without_a = refl

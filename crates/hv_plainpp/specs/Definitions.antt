@@ -62,7 +62,10 @@ some_parameters (t ∷ mark ∷ tokens) =
       | false ↦ elim (is_identifier t.kind) [
         | true ↦ elim closes [
           | true ↦ with_name t.text (Some (no_more tokens))
-          | false ↦ elim continues [ true ↦ with_name t.text (some_parameters tokens) | false ↦ None ]
+          | false ↦ elim continues [
+            | true ↦ with_name t.text (some_parameters tokens)
+            | false ↦ None
+          ]
         ]
         | false ↦ None
       ]

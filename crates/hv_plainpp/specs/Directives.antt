@@ -31,6 +31,7 @@ pub data Action : Type 0 where
   -- none of them
   unknown : Action
 
+-- a directive
 pub data Directive : Type 0 where
   conditional : Conditional → Directive
   action : Action → Directive

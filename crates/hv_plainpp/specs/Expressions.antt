@@ -1,5 +1,5 @@
--- Controlling expressions (6.6, 6.10.1), computed: the trees that symbols derive, by the productions
--- of `hv_plain/specs/controlling`, with each way to part the symbols.
+-- Controlling expressions (6.6, 6.10.1), computed: the trees that symbols derive, by the
+-- productions of `hv_plain/specs/controlling`, with each way to part the symbols.
 use Rattle.std.specs.Prelude.{ℕ, zero, suc, ◌*◌, Bool, true, false, ◌==◌, List, [], ◌∷◌, ◌++◌, flat_map, length, map, Option, None, Some}
 use Rattle.hv_base.specs.declared.operator.BinaryOperator.{BinaryOperator}
 use Rattle.hv_base.specs.declared.operator.BinaryOperator.TheVariants.{Multiply, Divide, Remainder, Add, Subtract, ShiftLeft, ShiftRight, Less, Greater, LessEqual, GreaterEqual, Equal, NotEqual, And, ExclusiveOr, Or, LogicalAnd, LogicalOr}
@@ -173,8 +173,8 @@ chosen below condition p = flat_map
 
 -- the trees of conditional expressions, which have the level 0
 abbrev pub conditional_trees : (below : ℕ → List Symbol → List Tree) → ℕ → List Symbol → List Tree
-conditional_trees below zero ts =
-    flat_map (λ p. flat_map (chosen below p.before) (partings colon p.behind)) (partings question ts)
+conditional_trees below zero ts = flat_map
+    (λ p. flat_map (chosen below p.before) (partings colon p.behind)) (partings question ts)
 conditional_trees below (suc k) ts = []
 
 -- the trees of expressions of this level

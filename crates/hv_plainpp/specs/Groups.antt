@@ -34,6 +34,7 @@ pub record Group : Type 0 where
   pub progress : Progress
   pub behind_else : Bool
 
+-- whether the present group is processed
 abbrev pub is_processing : Progress → Bool
 is_processing searching = false
 is_processing processing = true
@@ -71,6 +72,7 @@ expression_truth at macros hash [] = refusal BadCondition hash
 expression_truth at macros hash (t ∷ tokens) =
     met_on_line hash (place_of at t) (episode Line (t ∷ tokens) 0 macros)
 
+-- whether a name that means this is a macro
 abbrev pub is_defined : Macro → Bool
 is_defined undefined = false
 is_defined (defined place body) = true

@@ -1,4 +1,5 @@
--- A file as lines (6.10): a directive is a line that begins with `#`, and all others are text lines.
+-- A file as lines (6.10): a directive is a line that begins with `#`, and all others are text
+-- lines.
 -- Not in here: what a directive means, and which lines a configuration skips.
 use Rattle.std.specs.Prelude.{Bool, true, false, ◌&&◌, List, [], ◌∷◌, ◌++◌, codes}
 use Rattle.std.specs.Str.{bytes_eq}

@@ -1,5 +1,5 @@
-//! Preprocessing in one configuration (ISO/IEC 9899:1999, 6.10), as a definition, and what is proved
-//! of it.
+//! Preprocessing in one configuration (ISO/IEC 9899:1999, 6.10), as a definition, and what is
+//! proved of it.
 #![tactic(auto)]
 
 ghost use Rattle.hv_plainpp.specs.Laws.{OrdinaryText, TruthIsDerived};
