@@ -1,3 +1,5 @@
+pub mod CutPlaces
 pub mod ExpressionTrees
 pub mod OrdinaryText
+pub mod Placement
 mod Rows

@@ -22,7 +22,7 @@ use Rattle.hv_plainpp.specs.Text.{episodes, with_episode}
 
 ------ lines
 
-abbrev all_of : List (List PpTok) → List PpTok
+abbrev pub all_of : List (List PpTok) → List PpTok
 all_of [] = []
 all_of (line ∷ lines) = line ++ all_of lines
 
@@ -40,7 +40,7 @@ with_token_all t [] = refl
 with_token_all t ([] ∷ lines) = refl
 with_token_all t ((next ∷ line) ∷ lines) = with_one t next line lines next.first
 
-lines_all : (toks : List PpTok) → all_of (lines_of toks) ≡ toks
+pub lines_all : (toks : List PpTok) → all_of (lines_of toks) ≡ toks
 lines_all [] = refl
 lines_all (t ∷ toks) =
     with_token_all t (lines_of toks) ∙ ap (λ (r : List PpTok). t ∷ r) (lines_all toks)

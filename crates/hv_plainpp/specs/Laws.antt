@@ -1,6 +1,7 @@
 -- What is proved of preprocessing in one configuration.
 use Rattle.std.specs.Prelude.{◌≡◌, ◌||◌, Bool, false, List, [], ◌∷◌, map, Option, Some}
 use Rattle.hv_base.specs.Bundles.{NamedFiles}
+use Rattle.hv_base.specs.declared.place.Place.{Place}
 use Rattle.hv_toks.specs.Cutting.{tokens}
 use Rattle.hv_toks.specs.Macro.{undefined}
 use Rattle.hv_toks.specs.MacroState.{Entry, meaning_of}
@@ -12,7 +13,7 @@ use Rattle.hv_plain.specs.gathering.Mentions.{cut}
 use Rattle.hv_plainpp.specs.Expressions.{truth_of}
 use Rattle.hv_plainpp.specs.Files.{Entered, place_of}
 use Rattle.hv_plainpp.specs.Lines.{begins_directive}
-use Rattle.hv_plainpp.specs.Preprocessing.{Reader, file}
+use Rattle.hv_plainpp.specs.Preprocessing.{Reader, file, unit}
 use Rattle.hv_plainpp.specs.Reading.{Met, reaches}
 
 -- the truth that is computed of a controlling expression is one by its grammar, and where there is
@@ -38,6 +39,22 @@ own_episode at t = record {
   face = gives t.kind t.text ∷ [];
   gives = record { kind = t.kind; text = t.text; space = t.space || t.first } ∷ [];
 }
+
+-- none of these episodes is met at this place
+abbrev pub IsFree : Place → List Met → Type 0
+IsFree place [] = Unit {0}
+IsFree place (m ∷ met) = ¬ (place ≡ m.place) × IsFree place met
+
+-- no two of these episodes are met at one place
+abbrev pub DifferInPlace : List Met → Type 0
+DifferInPlace [] = Unit {0}
+DifferInPlace (m ∷ met) = IsFree m.place met × DifferInPlace met
+
+-- in one configuration no two episodes are met at one place, so a place has one expansion face at
+-- most
+abbrev pub PlacesDiffer : Type 0
+PlacesDiffer = (bundle : NamedFiles) (macros : List Entry)
+    → DifferInPlace (unit bundle macros).met
 
 -- an entered file without directives and names of macros gives its own tokens, each by itself at
 -- its own place, and changes no macro

@@ -2,7 +2,7 @@
 //! proved of it.
 #![tactic(auto)]
 
-ghost use Rattle.hv_plainpp.specs.Laws.{OrdinaryText, TruthIsDerived};
+ghost use Rattle.hv_plainpp.specs.Laws.{OrdinaryText, PlacesDiffer, TruthIsDerived};
 
 /// Does nothing. Its contract says that the truth that the definition computes of a controlling
 /// expression (6.10.1) is the one that its grammar derives.
@@ -14,4 +14,9 @@ pub fn truth_is_derived()
 /// its own tokens, each by itself at its own place.
 pub fn ordinary_text_is_kept()
     ensures { OrdinaryText }
+{}
+
+/// Does nothing. Its contract says that no two episodes of a configuration are met at one place.
+pub fn places_differ()
+    ensures { PlacesDiffer }
 {}
