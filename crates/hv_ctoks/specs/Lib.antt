@@ -6,3 +6,4 @@ pub mod Floating
 pub mod Joining
 pub mod Spelling
 pub mod Tokens
+pub mod working

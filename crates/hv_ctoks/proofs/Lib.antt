@@ -1,0 +1,3 @@
+pub mod CharactersLemmas
+pub mod FloatingLemmas
+pub mod Sequences

@@ -1,0 +1,2 @@
+-- What the code goes through, for private contracts and proofs.
+pub mod Scanning
