@@ -64,7 +64,9 @@ ending-is Decimal text = ap (λ b. maybe (one is_suffix) text || b) (exponent-is
 ending-is Hexadecimal text = exponent-is Hexadecimal text
 
 ending-refuses : (base : Base) → Refuses (is_digit_of base) (ending base)
-ending-refuses Decimal x xs e = rw (suffix-refuses x xs e) (exponent-refuses Decimal x xs e)
+ending-refuses Decimal x xs e =
+    let plain : maybe (one is_suffix) (x ∷ xs) ≡ false = suffix-refuses x xs e in
+    ap (λ b. b || exponent Decimal (x ∷ xs)) plain ∙ exponent-refuses Decimal x xs e
 ending-refuses Hexadecimal x xs e = exponent-refuses Hexadecimal x xs e
 
 -- digits only before the point, or digits behind it
@@ -73,10 +75,10 @@ fraction-none : (base : Base) (before : Bool) (text : List ℕ) (b : Bool)
     → (b ≡ true → ending base text ≡ false)
     → ((b && ending base (after (is_digit_of base) text)) || (before && ending base text))
     ≡ ((before || b) && ending base (after (is_digit_of base) text))
-fraction-none base true text true e same no = rw (no refl) (or_none _)
-fraction-none base true text false e same no = rw (same refl) refl
-fraction-none base false text true e same no = or_none _
-fraction-none base false text false e same no = refl
+fraction-none base true text true e same none = rw (none refl) (or_none _)
+fraction-none base true text false e same none = rw (same refl) refl
+fraction-none base false text true e same none = or_none _
+fraction-none base false text false e same none = refl
 
 after-none : (d : ℕ → Bool) (text : List ℕ) → begins d text ≡ false → after d text ≡ text
 after-none d [] e = refl

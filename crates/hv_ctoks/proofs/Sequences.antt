@@ -1,7 +1,8 @@
 -- Texts of two parts: where the first part is made of bytes of one class.
-use Rattle.std.proofs.Common.{◌≡◌, ℕ, ◌+◌, ◌&&◌, ◌||◌, Bool, true, false, cond, List, [], ◌∷◌, refl, sym, ◌∙◌, ap, drop, one-add, arith}
+use Rattle.std.proofs.Common.{◌≡◌, ℕ, suc, ◌+◌, ◌&&◌, ◌||◌, Bool, true, false, cond, List, [], ◌∷◌, refl, sym, ◌∙◌, ap, drop, one-add, arith}
 use Rattle.std.specs.Prelude.{nat_lt}
 use Rattle.std.specs.List.{list_all, prefix_len}
+use Rattle.std.proofs.lemmas.Bool.Decides.{nat_tests}
 use Rattle.hv_base.specs.Ascii.{is_empty}
 use Rattle.hv_base.proofs.Booleans.{or_false}
 use Rattle.hv_ctoks.specs.Floating.{sequence, maybe, one, some}
@@ -42,6 +43,9 @@ sequence-maybe_one t q x xs =
 abbrev pub Refuses : (ℕ → Bool) → (List ℕ → Bool) → Type 0
 Refuses d q = (x : ℕ) (xs : List ℕ) → d x ≡ true → q (x ∷ xs) ≡ false
 
+positive : (n : ℕ) → nat_lt 0 (suc n) ≡ true
+positive n = grind (arith, nat_tests)
+
 module _ (d : ℕ → Bool) (q : List ℕ → Bool) (refuses : Refuses d q) where
   sequence-all : (text : List ℕ) → sequence (list_all d) q text ≡ q (after d text)
   sequence-all [] = refl
@@ -62,7 +66,12 @@ module _ (d : ℕ → Bool) (q : List ℕ → Bool) (refuses : Refuses d q) wher
       → sequence (λ f. d x && list_all d f) q xs
       ≡ (nat_lt 0 (cond b (1 + prefix_len d xs) 0)
       && q (drop (cond b (1 + prefix_len d xs) 0) (x ∷ xs)))) [
-        | true ↦ λ e. rw (one-add, sequence-gate (d x) (list_all d) q xs, e) (sequence-all xs)
+        | true ↦ λ e. rw (
+            one-add,
+            positive (prefix_len d xs),
+            sequence-gate (d x) (list_all d) q xs,
+            e,
+          ) (sequence-all xs)
         | false ↦ λ e. rw (sequence-gate (d x) (list_all d) q xs, e) refl
       ] refl
 

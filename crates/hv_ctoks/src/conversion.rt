@@ -1,14 +1,14 @@
 //! A preprocessing token becomes a C token, translation phase 7 (ISO/IEC 9899:1999, 5.1.1.2, 6.4).
-ghost use Rattle.std.specs.Prelude.{◌≡◌, Ok, Err, IfOk, IfErr, is_some};
+ghost use Rattle.std.specs.Prelude.{◌≡◌, Ok, Err, None, IfOk, IfErr};
 ghost use Rattle.hv_ctoks.specs.Conversion as conversion;
 ghost use Rattle.hv_ctoks.specs.Conversion.{IsFaultOf};
-ghost use Rattle.hv_toks.specs.Constants as constants;
+ghost use Rattle.hv_ctoks.specs.working.Kinds.{is_string_kind};
 ghost use Rattle.hv_toks.specs.Lexical as lexical;
 
 use crate::floating::is_floating;
 use crate::literal::read_string_literal;
 use crate::{ReservedNames, TokenFault};
-use hv_base::{CTok, Keyword, Punct, Text, Why, is_among};
+use hv_base::{CTok, Keyword, Memory, Punct, Text, Why, is_among};
 use hv_lexer::whole_token;
 use hv_toks::{PpKind, PpTok, read_char_constant, read_int_constant};
 use std::alloc::Global;
@@ -58,7 +58,10 @@ fn name(alloc: Global, reserved: ReservedNames, text: &[u8]) -> Result<CTok, Tok
     if is_refused(reserved, text) {
         return Err(TokenFault::Plain(Why::Reserved));
     }
-    Ok(CTok::Name(Text::from_slice(alloc, text)?))
+    match Text::from_slice(alloc, text) {
+        Ok(copy) => Ok(CTok::Name(copy)),
+        Err(_) => Err(TokenFault::Memory),
+    }
 }
 
 /// An identifier becomes a keyword or a name (6.4.1, 6.4.2).
@@ -126,21 +129,41 @@ fn character(text: &[u8]) -> Result<CTok, TokenFault>
     }
 }
 
+/// Whether this is the kind of string literals.
+fn is_string_kind(kind: Option<PpKind>) -> bool
+    ensures { result ≡ is_string_kind kind }
+{
+    matches!(kind, Some(PpKind::StringLiteral))
+}
+
 /// Whether the text is a string literal of the cutting, whatever its escapes.
 fn is_string_literal(text: &[u8]) -> bool
     ensures { result ≡ lexical.is_string_literal text.now }
 {
-    whole_token(text) == Some(PpKind::StringLiteral)
+    is_string_kind(whole_token(text))
 }
 
 /// Whether the text is a wide string literal.
-fn is_wide_string(alloc: Global, text: &[u8]) -> Result<bool, TokenFault>
-    ensures ok { IfOk result (λ wide. wide ≡ conversion.wide conversion.is_string text.now) }
-    ensures refused { IfErr result (λ fault. fault ≡ TokenFault.Memory) }
+fn is_wide_string(alloc: Global, text: &[u8]) -> Result<bool, Memory>
+    ensures { IfOk result (λ wide. wide ≡ conversion.wide conversion.is_string text.now) }
 {
     match text {
-        [b'L', rest @ ..] => Ok(read_string_literal(alloc, rest)?.is_some()),
+        [b'L', rest @ ..] => match read_string_literal(alloc, rest) {
+            Ok(bytes) => Ok(bytes.is_some()),
+            Err(memory) => Err(memory),
+        },
         _ => Ok(false),
+    }
+}
+
+/// Why a string literal that has no bytes is refused.
+fn no_string(alloc: Global, text: &[u8]) -> TokenFault
+    ensures { IsFaultOf (conversion.string_from (conversion.wide conversion.is_string text.now) None)
+        result }
+{
+    match is_wide_string(alloc, text) {
+        Ok(left_out) => TokenFault::Plain(no_constant(left_out)),
+        Err(_) => TokenFault::Memory,
     }
 }
 
@@ -152,12 +175,10 @@ fn string(alloc: Global, text: &[u8]) -> Result<CTok, TokenFault>
     if !is_string_literal(text) {
         return Err(TokenFault::Plain(Why::Syntax));
     }
-    match read_string_literal(alloc, text)? {
-        Some(bytes) => Ok(CTok::Str(bytes)),
-        None => {
-            let left_out = is_wide_string(alloc, text)?;
-            Err(TokenFault::Plain(no_constant(left_out)))
-        }
+    match read_string_literal(alloc, text) {
+        Ok(Some(bytes)) => Ok(CTok::Str(bytes)),
+        Ok(None) => Err(no_string(alloc, text)),
+        Err(_) => Err(TokenFault::Memory),
     }
 }
 

@@ -1,5 +1,5 @@
 //! Why a preprocessing token becomes no C token.
-use hv_base::{Memory, Why};
+use hv_base::Why;
 use thiserror::Error;
 
 /// Why a preprocessing token becomes no C token.
@@ -11,15 +11,4 @@ pub enum TokenFault {
     /// Memory ran out.
     #[error("want of memory")]
     Memory,
-}
-
-impl From<Memory> for TokenFault {
-    ghost use Rattle.std.specs.Prelude.{◌≡◌};
-    ghost use Rattle.hv_ctoks.specs.declared.fault.TokenFault.TheVariants.{Memory as WantOfMemory};
-
-    fn from(_error: Memory) -> TokenFault
-        ensures { result ≡ WantOfMemory }
-    {
-        TokenFault::Memory
-    }
 }

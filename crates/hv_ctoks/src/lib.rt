@@ -13,3 +13,6 @@ pub use conversion::convert;
 pub use fault::TokenFault;
 pub use reserved::ReservedNames;
 pub use spelling::spell;
+
+#[cfg(test)]
+mod tests;
