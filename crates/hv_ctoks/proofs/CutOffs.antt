@@ -1,8 +1,8 @@
 -- Texts that are written piece by piece, and cut off where memory runs out.
 use Rattle.std.proofs.Common.{◌≡◌, ℕ, ◌+◌, ◌<◌, List, [], ◌∷◌, ◌++◌, refl, sym, ◌∙◌, ap, append_assoc, append-nil, length, take, drop, get_or, arith}
 use Rattle.std.specs.Prelude.{Result, Ok, Err, OnErr}
-use Rattle.std.proofs.lemmas.List.{take_more, take-append-drop, take_all}
-use Rattle.hv_ctoks.specs.Spelling.{IsCutOff, printed_byte, printed_bytes, quoted}
+use Rattle.std.proofs.lemmas.List.{take_more, take-append-drop}
+use Rattle.hv_ctoks.specs.Spelling.{IsCutOff, printed_byte, printed_bytes}
 
 pub on_err : {A B : Type 0} (answer : Result A B) (P : Type 0) → P → OnErr answer P
 on_err (Ok value) P h = tt
@@ -43,43 +43,3 @@ module _ (quote i : ℕ) (bytes old out : List ℕ)
         ∙ printed_bytes-append quote (take i bytes) (drop i bytes);
     there = e ∙ was;
   }
-
-  -- all are written
-  pub printed-all : length bytes ≡ i → out ≡ old ++ printed_bytes quote bytes
-  printed-all h =
-      was ∙ ap (λ t. old ++ printed_bytes quote t) (take_all i bytes (omega arith))
-
--- nothing is written
-pub cut-none : (old text new : List ℕ) → new ≡ old → IsCutOff old text new
-cut-none old text new e =
-    record { part = []; rest = text; whole = refl; there = e ∙ sym (append-nil old) }
-
-module _ (quote : ℕ) (old opened bytes : List ℕ) (opens : opened ≡ old ++ quote ∷ []) where
-  -- a part of the bytes is written after the opening quote
-  pub quoted-cut : (new : List ℕ) → IsCutOff opened (printed_bytes quote bytes) new
-      → IsCutOff old (quoted quote bytes) new
-  quoted-cut new h = record {
-    part = quote ∷ h.part;
-    rest = h.rest ++ quote ∷ [];
-    whole = ap (λ t. quote ∷ (t ++ quote ∷ [])) h.whole
-        ∙ ap (λ t. quote ∷ t) (append_assoc h.part h.rest (quote ∷ []));
-    there = h.there ∙ (ap (λ t. t ++ h.part) opens ∙ append_assoc old (quote ∷ []) h.part);
-  }
-
-  -- all but the closing quote is written
-  pub quoted-open : (new : List ℕ) → new ≡ opened ++ printed_bytes quote bytes
-      → IsCutOff old (quoted quote bytes) new
-  quoted-open new e = record {
-    part = quote ∷ printed_bytes quote bytes;
-    rest = quote ∷ [];
-    whole = refl;
-    there = e ∙ (ap (λ t. t ++ printed_bytes quote bytes) opens
-        ∙ append_assoc old (quote ∷ []) (printed_bytes quote bytes));
-  }
-
-  -- all is written
-  pub quoted-all : (inner new : List ℕ) → inner ≡ opened ++ printed_bytes quote bytes
-      → new ≡ inner ++ quote ∷ [] → new ≡ old ++ quoted quote bytes
-  quoted-all inner new e f =
-      f ∙ (ap (λ t. t ++ quote ∷ []) ((quoted-open inner e).there)
-      ∙ append_assoc old (quote ∷ printed_bytes quote bytes) (quote ∷ []))

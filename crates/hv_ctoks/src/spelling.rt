@@ -1,8 +1,12 @@
 //! C tokens are spelled by their values.
-ghost use Rattle.std.specs.Prelude.{◌≡◌, ◌<◌, ◌++◌, OnOk, OnErr};
+ghost use Rattle.std.specs.Prelude.{◌≡◌, ℕ, ◌++◌, List, IsTrue, OnOk, OnErr};
+ghost use Rattle.std.specs.List.{All};
 ghost use Rattle.hv_toks.specs.Constants as constants;
+ghost use Rattle.hv_ctoks.specs.ReadBack.{AreReadBack, IsPrintable, IsReadBack, Printed};
 ghost use Rattle.hv_ctoks.specs.Spelling as spellings;
 ghost use Rattle.hv_ctoks.specs.Spelling.{IsCutOff};
+ghost use Rattle.hv_ctoks.specs.Tokens.{is_token};
+ghost use Rattle.hv_ctoks.specs.declared.reserved.ReservedNames.{ReservedNames as ReservedOf};
 
 use hv_base::{CTok, IntType, Memory, Text};
 
@@ -80,6 +84,22 @@ fn suffix_of(kind: IntType) -> &'static str
     }
 }
 
+/// Spells a word or a sign as it is.
+fn spell_word(out: &mut Text, word: &str) -> Result<(), Memory>
+    ensures ok { OnOk result (out.new ≡ out.old ++ word.now) }
+    ensures memory { OnErr result (IsCutOff out.old word.now out.new) }
+{
+    out.extend_from_slice(word.as_bytes())
+}
+
+/// Spells a name as it is.
+fn spell_name(out: &mut Text, name: &Text) -> Result<(), Memory>
+    ensures ok { OnOk result (out.new ≡ out.old ++ name.now) }
+    ensures memory { OnErr result (IsCutOff out.old name.now out.new) }
+{
+    out.extend_from_slice(name.as_slice())
+}
+
 /// Spells an integer constant.
 fn spell_int(out: &mut Text, value: u64, kind: IntType) -> Result<(), Memory>
     ensures ok { OnOk result (out.new ≡ out.old ++ constants.printed_int value kind) }
@@ -90,17 +110,31 @@ fn spell_int(out: &mut Text, value: u64, kind: IntType) -> Result<(), Memory>
     out.extend_from_slice(suffix_of(kind).as_bytes())
 }
 
-/// Appends the spelling of a C token (6.4); where memory runs out, a part of it from its beginning.
-pub fn spell(out: &mut Text, tok: &CTok) -> Result<(), Memory>
+/// Spells a C token.
+fn spell_token(out: &mut Text, tok: &CTok) -> Result<(), Memory>
     ensures ok { OnOk result (out.new ≡ out.old ++ spellings.spelling tok.now) }
     ensures memory { OnErr result (IsCutOff out.old (spellings.spelling tok.now) out.new) }
 {
     match tok {
-        CTok::Keyword(word) => out.extend_from_slice(word.spelling().as_bytes()),
-        CTok::Name(text) => out.extend_from_slice(text.as_slice()),
+        CTok::Keyword(word) => spell_word(out, word.spelling()),
+        CTok::Name(text) => spell_name(out, text),
         CTok::Int { value, kind } => spell_int(out, *value, *kind),
         CTok::Char(value) => spell_quoted(out, b'\'', &[byte_of(*value)]),
         CTok::Str(bytes) => spell_quoted(out, b'"', bytes.as_slice()),
-        CTok::Punct(sign) => out.extend_from_slice(sign.spelling().as_bytes()),
+        CTok::Punct(sign) => spell_word(out, sign.spelling()),
     }
+}
+
+/// Appends the spelling of a C token (6.4); where memory runs out, a part of it from its beginning.
+pub fn spell(out: &mut Text, tok: &CTok) -> Result<(), Memory>
+    ensures ok { OnOk result (out.new ≡ out.old ++ spellings.spelling tok.now) }
+    ensures memory { OnErr result (IsCutOff out.old (spellings.spelling tok.now) out.new) }
+    // the spelling is one preprocessing token, which becomes this C token again
+    ensures read_back { (reserved : ReservedOf) → IsTrue (is_token reserved tok.now)
+        → IsReadBack reserved tok.now }
+    // so are the tokens of a file, with a blank or a newline after each
+    ensures are_read_back { (reserved : ReservedOf) (file : ℕ) (printed : List Printed)
+        → All (IsPrintable reserved) printed → AreReadBack reserved file printed }
+{
+    spell_token(out, tok)
 }
