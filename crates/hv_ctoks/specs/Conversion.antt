@@ -1,7 +1,7 @@
 -- What C token a preprocessing token becomes, translation phase 7 (5.1.1.2, 6.4), or why the source
 -- is refused there. Where two refusals fit, the one with the smaller number counts.
 -- Not in here: where a token stands, and the joining of adjacent string literals.
-use Rattle.std.specs.Prelude.{ℕ, ◌-◌, ◌==◌, ◌&&◌, Bool, true, false, cond, nat_eq, nat_lt, List, [], ◌∷◌, codes, ℤ, pos, negsuc, Option, Some, None, is_some, Result, Ok, Err}
+use Rattle.std.specs.Prelude.{◌≡◌, ℕ, ◌-◌, ◌==◌, ◌&&◌, Bool, true, false, cond, nat_eq, nat_lt, List, [], ◌∷◌, codes, ℤ, pos, negsuc, Option, Some, None, is_some, Result, Ok, Err}
 use Rattle.std.specs.List.{starts_with}
 use Rattle.hv_base.specs.Ascii as ascii
 use Rattle.hv_base.specs.Ascii.{is_among}
@@ -19,6 +19,8 @@ use Rattle.hv_toks.specs.Lexical.{is_string_literal}
 use Rattle.hv_toks.specs.declared.token.PpKind.{PpKind}
 use Rattle.hv_toks.specs.declared.token.PpKind.TheVariants.{Identifier, Number, CharConstant, StringLiteral, HeaderName, Punctuator, Other}
 use Rattle.hv_ctoks.specs.Floating.{is_floating}
+use Rattle.hv_ctoks.specs.declared.fault.TokenFault.{TokenFault}
+use Rattle.hv_ctoks.specs.declared.fault.TokenFault.TheVariants.{Plain, Memory}
 use Rattle.hv_ctoks.specs.declared.reserved.ReservedNames.{ReservedNames}
 use Rattle.hv_ctoks.specs.declared.reserved.ReservedNames.TheVariants.{Allowed, Refused}
 
@@ -35,6 +37,10 @@ left_out =
     ∷ codes "__TIME__"
     ∷ codes "_Pragma" ∷ []
 
+-- whether a text is one of them
+abbrev pub is_left_out : List ℕ → Bool
+is_left_out text = is_among text left_out
+
 -- a name that Hercules keeps for itself
 abbrev pub is_reserved : List ℕ → Bool
 is_reserved text = starts_with nat_eq text (codes "hv_")
@@ -47,7 +53,7 @@ is_refused Refused text = is_reserved text
 -- a name, or a refusal
 abbrev pub name : ReservedNames → List ℕ → Result CTok Why
 name reserved text =
-    cond (is_among text left_out) (Err LeftOut)
+    cond (is_left_out text) (Err LeftOut)
     (cond (is_refused reserved text) (Err Reserved) (Ok (Name text)))
 
 -- the keyword, or else this
@@ -61,9 +67,13 @@ identifier reserved text = keyword_or (name reserved text) (keyword_of text)
 
 ------ constants
 
+-- why what is no constant of the profile is refused
+abbrev pub no_constant : (left_out : Bool) → Why
+no_constant left_out = cond left_out LeftOut BadConstant
+
 -- the integer constant of this value and type; where there is none, a floating constant is left out
 abbrev pub number_from : (floating : Bool) → Option (ℕ × IntType) → Result CTok Why
-number_from floating None = Err (cond floating LeftOut BadConstant)
+number_from floating None = Err (no_constant floating)
 number_from floating (Some (value, kind)) = Ok (Int value kind)
 
 -- a preprocessing number (6.4.4.1, 6.4.4.2)
@@ -85,7 +95,7 @@ is_character text = is_some (char_constant text)
 
 -- the character constant of this byte; where there is none, a wide one is left out
 abbrev pub character_from : (wide : Bool) → Option ℕ → Result CTok Why
-character_from wide None = Err (cond wide LeftOut BadConstant)
+character_from wide None = Err (no_constant wide)
 character_from wide (Some byte) = Ok (Char (char_value byte))
 
 -- a character constant (6.4.4.4)
@@ -98,7 +108,7 @@ is_string text = is_some (string_literal text)
 
 -- the string literal of these bytes; where there is none, a wide one is left out
 abbrev pub string_from : (wide : Bool) → Option (List ℕ) → Result CTok Why
-string_from wide None = Err (cond wide LeftOut BadConstant)
+string_from wide None = Err (no_constant wide)
 string_from wide (Some bytes) = Ok (Str bytes)
 
 -- a string literal (6.4.5). The operator `#` may make one whose spelling is none (6.10.3.2)
@@ -129,3 +139,10 @@ converted reserved StringLiteral text = string text
 converted reserved HeaderName text = Err Syntax
 converted reserved Punctuator text = punctuator text
 converted reserved Other text = Err Syntax
+
+------ answers
+
+-- the refusal is this answer; want of memory says nothing of it
+abbrev pub IsFaultOf : Result CTok Why → TokenFault → Type 0
+IsFaultOf answer (Plain why) = answer ≡ Err why
+IsFaultOf answer Memory = Unit {0}

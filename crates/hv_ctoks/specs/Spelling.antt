@@ -1,5 +1,5 @@
 -- How a C token is printed, by its value, so that it is read as this token (6.4).
-use Rattle.std.specs.Prelude.{ℕ, ◌+◌, ◌-◌, ◌/◌, ◌%◌, ◌==◌, ◌&&◌, not, cond, List, [], ◌∷◌, ◌++◌, ℤ, pos, negsuc}
+use Rattle.std.specs.Prelude.{ℕ, ◌+◌, ◌-◌, ◌/◌, ◌%◌, ◌==◌, ◌&&◌, not, ◌≡◌, Bool, cond, List, [], ◌∷◌, ◌++◌, ℤ, pos, negsuc}
 use Rattle.hv_base.specs.Ascii as ascii
 use Rattle.hv_base.specs.Ascii.{is_printable}
 use Rattle.hv_base.specs.Keywords as keywords
@@ -11,14 +11,18 @@ use Rattle.hv_toks.specs.Constants.{printed_int}
 -- a byte as a backslash and three octal digits (6.4.4.4)
 abbrev pub octal : ℕ → List ℕ
 octal byte =
-    ascii.backslash ∷ ascii.zero_digit + byte / 64 ∷ ascii.zero_digit + byte / 8 % 8
-    ∷ ascii.zero_digit + byte % 8 ∷ []
+    ascii.backslash ∷ (ascii.zero_digit + byte / 64) ∷ (ascii.zero_digit + byte / 8 % 8)
+    ∷ (ascii.zero_digit + byte % 8) ∷ []
 
--- a byte between such quotes: as itself where it prints and is neither the quote nor a backslash
+-- whether a byte between such quotes is printed as itself: it prints, and is neither the quote nor a
+-- backslash
+abbrev pub is_plain : (quote : ℕ) → ℕ → Bool
+is_plain quote byte =
+    is_printable byte && not (byte == quote) && not (byte == ascii.backslash)
+
+-- a byte between such quotes
 abbrev pub printed_byte : (quote : ℕ) → ℕ → List ℕ
-printed_byte quote byte =
-    cond (is_printable byte && not (byte == quote) && not (byte == ascii.backslash)) (byte ∷ [])
-    (octal byte)
+printed_byte quote byte = cond (is_plain quote byte) (byte ∷ []) (octal byte)
 
 -- bytes between such quotes
 abbrev pub printed_bytes : (quote : ℕ) → List ℕ → List ℕ
@@ -42,3 +46,10 @@ spelling (Int value kind) = printed_int value kind
 spelling (Char value) = quoted ascii.apostrophe (byte_of value ∷ [])
 spelling (Str bytes) = quoted ascii.quote bytes
 spelling (Punct sign) = puncts.spelling_of sign
+
+-- a text was to go behind `before`, and a part of it from its beginning did
+pub record IsCutOff (before text now : List ℕ) : Type 0 where
+  pub part : List ℕ
+  pub rest : List ℕ
+  pub whole : text ≡ part ++ rest
+  pub there : now ≡ before ++ part

@@ -1,7 +1,6 @@
 -- The C tokens that preprocessing tokens become, and of which kind those are that become them.
 use Rattle.std.specs.Prelude.{ℕ, ◌&&◌, Bool, true, false, not, nat_le, nat_lt, List, [], ◌∷◌, ℤ, pos, negsuc, is_some}
 use Rattle.std.specs.List.{list_all}
-use Rattle.hv_base.specs.Ascii.{is_among}
 use Rattle.hv_base.specs.Keywords.{keyword_of}
 use Rattle.hv_base.specs.declared.token.CTok.{CTok}
 use Rattle.hv_base.specs.declared.token.CTok.TheVariants.{Keyword, Name, Int, Char, Str, Punct}
@@ -9,13 +8,13 @@ use Rattle.hv_toks.specs.Constants.{limit}
 use Rattle.hv_toks.specs.Lexical.{is_identifier}
 use Rattle.hv_toks.specs.declared.token.PpKind.{PpKind}
 use Rattle.hv_toks.specs.declared.token.PpKind.TheVariants.{Identifier, Number, CharConstant, StringLiteral, Punctuator}
-use Rattle.hv_ctoks.specs.Conversion.{is_refused, left_out}
+use Rattle.hv_ctoks.specs.Conversion.{is_left_out, is_refused}
 use Rattle.hv_ctoks.specs.declared.reserved.ReservedNames.{ReservedNames}
 
 -- an identifier that is no keyword, isn't left out and isn't refused
 abbrev pub is_name : ReservedNames → List ℕ → Bool
 is_name reserved text =
-    is_identifier text && not (is_some (keyword_of text)) && not (is_among text left_out)
+    is_identifier text && not (is_some (keyword_of text)) && not (is_left_out text)
     && not (is_refused reserved text)
 
 -- a value of type `char`, which is signed and has eight bits

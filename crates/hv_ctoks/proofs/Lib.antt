@@ -1,0 +1,9 @@
+pub mod CharactersLemmas
+pub mod CutOffs
+pub mod FloatingLemmas
+pub mod ListsReadBack
+pub mod PrintedBytes
+pub mod ReadBack
+pub mod Sequences
+pub mod StringKinds
+pub mod WholeTokens
