@@ -3,3 +3,4 @@ pub mod ExpressionTrees
 pub mod OrdinaryText
 pub mod Placement
 mod Rows
+pub mod Starts

@@ -1,7 +1,9 @@
 -- What is proved of preprocessing in one configuration.
-use Rattle.std.specs.Prelude.{◌≡◌, ◌||◌, Bool, false, List, [], ◌∷◌, map, Option, Some}
+use Rattle.std.specs.Prelude.{ℕ, ◌≡◌, ◌||◌, Bool, false, List, [], ◌∷◌, map, Option, Some}
 use Rattle.hv_base.specs.Bundles.{NamedFiles}
 use Rattle.hv_base.specs.declared.place.Place.{Place}
+use Rattle.hv_base.specs.declared.token.CTok.{CTok}
+use Rattle.hv_ctoks.specs.declared.reserved.ReservedNames.{ReservedNames}
 use Rattle.hv_toks.specs.Cutting.{tokens}
 use Rattle.hv_toks.specs.Macro.{undefined}
 use Rattle.hv_toks.specs.MacroState.{Entry, meaning_of}
@@ -10,9 +12,11 @@ use Rattle.hv_toks.specs.declared.token.PpTok.{PpTok}
 use Rattle.hv_plain.specs.controlling.Grammar.{IsTruth}
 use Rattle.hv_plain.specs.episode.Expansion.{gives}
 use Rattle.hv_plain.specs.gathering.Mentions.{cut}
+use Rattle.hv_plainpp.specs.CTokens.{Identity}
 use Rattle.hv_plainpp.specs.Expressions.{truth_of}
 use Rattle.hv_plainpp.specs.Files.{Entered, place_of}
 use Rattle.hv_plainpp.specs.Lines.{begins_directive}
+use Rattle.hv_plainpp.specs.Plainpp.{plainpp}
 use Rattle.hv_plainpp.specs.Preprocessing.{Reader, file, unit}
 use Rattle.hv_plainpp.specs.Reading.{Met, reaches}
 
@@ -55,6 +59,24 @@ DifferInPlace (m ∷ met) = IsFree m.place met × DifferInPlace met
 abbrev pub PlacesDiffer : Type 0
 PlacesDiffer = (bundle : NamedFiles) (macros : List Entry)
     → DifferInPlace (unit bundle macros).met
+
+-- none of these tokens begins where this identity is
+abbrev pub IsNew : Identity → List (CTok × Identity) → Type 0
+IsNew identity [] = Unit {0}
+IsNew identity (t ∷ toks) =
+    ¬ ((identity.place ≡ t.1.place) × (identity.index ≡ t.1.index)) × IsNew identity toks
+
+-- no two of these tokens have one place and one index
+abbrev pub DifferInStart : List (CTok × Identity) → Type 0
+DifferInStart [] = Unit {0}
+DifferInStart (t ∷ toks) = IsNew t.1 toks × DifferInStart toks
+
+-- in one configuration no two tokens of C come from one episode's place with one index, so none is
+-- there twice
+abbrev pub StartsDiffer : Type 0
+StartsDiffer = (bundle : NamedFiles) (names : List (List ℕ)) (values : List Bool)
+    (reserved : ReservedNames) (toks : List (CTok × Identity))
+    → (plainpp bundle names values reserved).ending ≡ reaches toks → DifferInStart toks
 
 -- an entered file without directives and names of macros gives its own tokens, each by itself at
 -- its own place, and changes no macro

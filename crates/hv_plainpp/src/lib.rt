@@ -2,7 +2,7 @@
 //! proved of it.
 #![tactic(auto)]
 
-ghost use Rattle.hv_plainpp.specs.Laws.{OrdinaryText, PlacesDiffer, TruthIsDerived};
+ghost use Rattle.hv_plainpp.specs.Laws.{OrdinaryText, PlacesDiffer, StartsDiffer, TruthIsDerived};
 
 /// Does nothing. Its contract says that the truth that the definition computes of a controlling
 /// expression (6.10.1) is the one that its grammar derives.
@@ -19,4 +19,10 @@ pub fn ordinary_text_is_kept()
 /// Does nothing. Its contract says that no two episodes of a configuration are met at one place.
 pub fn places_differ()
     ensures { PlacesDiffer }
+{}
+
+/// Does nothing. Its contract says that no two tokens of C of a configuration have one place and
+/// one index.
+pub fn starts_differ()
+    ensures { StartsDiffer }
 {}
