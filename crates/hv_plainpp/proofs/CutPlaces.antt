@@ -1,9 +1,8 @@
 -- The tokens of a file begin at offsets that rise.
-use Rattle.std.proofs.Common.{◌≡◌, ℕ, zero, suc, ◌+◌, ◌-◌, ◌<◌, ◌≤◌, Bool, true, false, cond, List, [], ◌∷◌, ◌++◌, map, length, take, drop, refl, sym, ap, ◌∙◌, subst, arith, ◌==◌, ◌||◌, ◌&&◌, nat_lt}
+use Rattle.std.proofs.Common.{◌≡◌, ℕ, zero, suc, ◌+◌, ◌<◌, ◌≤◌, Bool, true, false, cond, List, [], ◌∷◌, map, length, take, drop, refl, sym, ap, ◌∙◌, subst, arith, ◌==◌, ◌||◌, ◌&&◌, nat_lt}
 use Rattle.std.specs.Prelude.{codes, nat_eq, slice_index}
 use Rattle.std.specs.List.{starts_with}
 use Rattle.std.proofs.lemmas.Bool.{false≢true}
-use Rattle.hv_toks.specs.declared.token.PpKind.{PpKind}
 use Rattle.hv_toks.specs.declared.token.PpKind.TheVariants.{HeaderName}
 use Rattle.std.proofs.lemmas.Bool.Decides.{nat_tests}
 use Rattle.hv_base.specs.Ascii as ascii
@@ -61,9 +60,11 @@ spliced_rise : (n offset byte : ℕ) (bytes : List ℕ)
       | zero ↦ record { byte = byte; offset = offset } ∷ marks_from 0 (offset + 1) bytes
       | suc deleted ↦ marks_from deleted (offset + 1) bytes
     ]))
-spliced_rise zero offset byte bytes h =
-    (omega arith, rising_from (suc offset) (offset + 1) (omega arith)
-    (map (λ (m : Mark). m.offset) (marks_from 0 (offset + 1) bytes)) (h 0))
+spliced_rise zero offset byte bytes h = (
+  omega arith,
+  rising_from (suc offset) (offset + 1) (omega arith)
+      (map (λ (m : Mark). m.offset) (marks_from 0 (offset + 1) bytes)) (h 0),
+)
 spliced_rise (suc deleted) offset byte bytes h =
     rising_from offset (offset + 1) (omega arith)
     (map (λ (m : Mark). m.offset) (marks_from deleted (offset + 1) bytes)) (h deleted)

@@ -3,8 +3,7 @@ use Rattle.std.proofs.Common.{◌≡◌, ℕ, zero, suc, ◌+◌, ◌*◌, ◌<�
 use Rattle.std.proofs.lemmas.Bool.{eqb-true, eq-eqb, ne_eqb}
 use Rattle.hv_base.specs.declared.operator.BinaryOperator.{BinaryOperator}
 use Rattle.hv_base.specs.declared.operator.BinaryOperator.TheVariants.{Multiply, Divide, Remainder, Add, Subtract, ShiftLeft, ShiftRight, Less, Greater, LessEqual, GreaterEqual, Equal, NotEqual, And, ExclusiveOr, Or, LogicalAnd, LogicalOr}
-use Rattle.hv_plain.specs.controlling.Grammar.{Tree, number, unary, binary, conditional, level, sign, Derives, a_number, a_parenthesized, a_unary, a_binary, a_conditional, a_higher, truth, IsTruth, symbols}
-use Rattle.hv_plain.specs.declared.controlling.Operand.{Operand}
+use Rattle.hv_plain.specs.controlling.Grammar.{Tree, unary, binary, conditional, level, sign, Derives, a_number, a_parenthesized, a_unary, a_binary, a_conditional, a_higher, truth, IsTruth, symbols}
 use Rattle.hv_plain.specs.declared.controlling.Symbol.{Symbol}
 use Rattle.hv_plain.specs.declared.controlling.Symbol.TheVariants.{Number, Operator, Complement, Not, Open, Close, Question, Colon, Other}
 use Rattle.hv_plain.specs.declared.controlling.Unary.{Unary}
@@ -501,12 +500,24 @@ trees_complete (a_binary {ts = ts} {us = us} {a = a} {b = b} op d e) (suc n) h =
     (trees_complete e n (omega (arith, h, length-append ts (Operator op ∷ us))))
 trees_complete (a_conditional {cs = cs} {ts = ts} {us = us} {c = c} {a = a} {b = b} d e f) (suc n) h =
     conditional_at (trees n) cs ts us c a b
-    (trees_complete d n (omega (arith, h, length-append cs (Question ∷ (ts ++ Colon ∷ us)),
-    length-append ts (Colon ∷ us))))
-    (trees_complete e n (omega (arith, h, length-append cs (Question ∷ (ts ++ Colon ∷ us)),
-    length-append ts (Colon ∷ us))))
-    (trees_complete f n (omega (arith, h, length-append cs (Question ∷ (ts ++ Colon ∷ us)),
-    length-append ts (Colon ∷ us))))
+    (trees_complete d n (omega (
+      arith,
+      h,
+      length-append cs (Question ∷ (ts ++ Colon ∷ us)),
+      length-append ts (Colon ∷ us),
+    )))
+    (trees_complete e n (omega (
+      arith,
+      h,
+      length-append cs (Question ∷ (ts ++ Colon ∷ us)),
+      length-append ts (Colon ∷ us),
+    )))
+    (trees_complete f n (omega (
+      arith,
+      h,
+      length-append cs (Question ∷ (ts ++ Colon ∷ us)),
+      length-append ts (Colon ∷ us),
+    )))
 trees_complete (a_higher {k = k} {ts = ts} {t = t} d) (suc n) h =
     lower_at (trees n) k ts t (omega (arith, level_within d))
     (has_left t (trees n (suc k) ts)
@@ -565,6 +576,8 @@ computed_of tokens b w =
 
 pub truth_is_derived : TruthIsDerived
 truth_is_derived tokens b =
-    let ss : List Symbol = symbols_of (all_spelled tokens) in
-    (λ e. derived_of tokens b (first_sound (Derives 0 ss) (trees (12 * length ss) 0 ss)
-    (trees_sound (12 * length ss) 0 ss) b e), computed_of tokens b)
+    let ss : List Symbol = symbols_of (all_spelled tokens) in (
+      λ e. derived_of tokens b (first_sound (Derives 0 ss) (trees (12 * length ss) 0 ss)
+          (trees_sound (12 * length ss) 0 ss) b e),
+      computed_of tokens b,
+    )

@@ -1,22 +1,20 @@
 -- A file without directives and without names of macros gives its own tokens.
-use Rattle.std.proofs.Common.{◌≡◌, ℕ, zero, suc, ◌-◌, ◌+◌, Bool, true, false, List, [], ◌∷◌, ◌++◌, map, length, nat_le, refl, subst, sym, ap, ◌∙◌, Option, arith, ◌||◌}
+use Rattle.std.proofs.Common.{◌≡◌, ℕ, suc, ◌-◌, Bool, true, false, List, [], ◌∷◌, ◌++◌, map, length, nat_le, refl, subst, sym, ap, ◌∙◌, Option, arith}
 use Rattle.std.proofs.lemmas.Bool.Decides.{nat_tests}
-use Rattle.hv_toks.specs.Cutting.{tokens}
 use Rattle.hv_toks.specs.Macro.{Macro, undefined}
 use Rattle.hv_toks.specs.MacroState.{Entry, meaning_of}
-use Rattle.hv_toks.specs.Spelled.{Spelled}
 use Rattle.hv_toks.specs.declared.token.PpTok.{PpTok}
 use Rattle.hv_base.specs.Bundles.{NamedFiles}
 use Rattle.hv_plain.specs.declared.episode.RunEnd.{RunEnd}
 use Rattle.hv_plain.specs.declared.episode.RunEnd.TheVariants.{FileEnd}
 use Rattle.hv_plain.specs.episode.Episode.{episode}
-use Rattle.hv_plain.specs.episode.Expansion.{Deed, give, deed, deed_at, is_open, next, events, after, adding, run, at as at_token, done, State, Episode, expands, gives, first_of_text}
+use Rattle.hv_plain.specs.episode.Expansion.{Deed, give, deed, deed_at, is_open, next, events, after, adding, run, at as at_token, done, Episode, expands, gives}
 use Rattle.hv_plain.specs.episode.Substitution.{Scan, Frame}
 use Rattle.hv_plain.specs.episode.Tokens.{Token, source_token, given_token}
 use Rattle.hv_plainpp.specs.Files.{Entered, place_of}
-use Rattle.hv_plainpp.specs.Laws.{own_episode, IsOrdinary, AreOrdinary, OrdinaryText}
-use Rattle.hv_plainpp.specs.Lines.{Piece, text, directive, begins_directive, with_token, lines_of, with_line, pieces_of}
-use Rattle.hv_plainpp.specs.Preprocessing.{Reader, rest_of_file, cut_file, file}
+use Rattle.hv_plainpp.specs.Laws.{own_episode, AreOrdinary, OrdinaryText}
+use Rattle.hv_plainpp.specs.Lines.{Piece, text, directive, with_token, lines_of, with_line, pieces_of}
+use Rattle.hv_plainpp.specs.Preprocessing.{Reader, rest_of_file, cut_file}
 use Rattle.hv_plainpp.specs.Reading.{Met, Reading, reading, reaches, continued, and_then}
 use Rattle.hv_plainpp.specs.Text.{episodes, with_episode}
 

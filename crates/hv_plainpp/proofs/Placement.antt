@@ -1,5 +1,5 @@
 -- No two episodes are met at one place.
-use Rattle.std.proofs.Common.{◌≡◌, ℕ, zero, suc, ◌+◌, ◌-◌, ◌<◌, ◌≤◌, Bool, true, false, cond, List, [], ◌∷◌, ◌++◌, length, not, refl, sym, ap, ◌∙◌, subst, arith, Option, Some, None, codes, nat_lt, bytes_eq}
+use Rattle.std.proofs.Common.{◌≡◌, ℕ, zero, suc, ◌-◌, ◌<◌, ◌≤◌, Bool, true, false, cond, List, [], ◌∷◌, ◌++◌, length, not, refl, sym, ap, ◌∙◌, subst, arith, Option, Some, None, codes, nat_lt, bytes_eq}
 use Rattle.hv_base.specs.Bundles.{NamedFiles}
 use Rattle.hv_base.specs.declared.limits.TheConstants.{MOST_INCLUDES, MOST_GROUPS}
 use Rattle.hv_base.specs.declared.place.Place.{Place}
@@ -10,7 +10,7 @@ use Rattle.hv_toks.specs.Macro.{Macro}
 use Rattle.hv_toks.specs.MacroState.{Entry, meaning_of}
 use Rattle.hv_toks.specs.declared.token.PpTok.{PpTok}
 use Rattle.hv_plain.specs.declared.episode.RunEnd.{RunEnd}
-use Rattle.hv_plain.specs.declared.episode.RunEnd.TheVariants.{Directive as AtDirective, FileEnd, Line}
+use Rattle.hv_plain.specs.declared.episode.RunEnd.TheVariants.{Line}
 use Rattle.hv_plain.specs.episode.Episode.{episode}
 use Rattle.hv_plain.specs.episode.Expansion.{Result, expands, fails, Episode, Event}
 use Rattle.hv_plain.specs.episode.Tokens.{is_identifier}
@@ -20,11 +20,11 @@ use Rattle.hv_plainpp.proofs.OrdinaryText.{all_of, lines_all}
 use Rattle.hv_plainpp.specs.Definitions.{Definition, definition, undefined_name}
 use Rattle.hv_plainpp.specs.Directives.{Question, expression, is_macro, is_no_macro, Conditional, if_, elif, else_, endif, Action, include, define, undef, error, ignored, unknown, Directive, conditional, action, named, directive_of}
 use Rattle.hv_plainpp.specs.Expressions.{truth_of}
-use Rattle.hv_plainpp.specs.Files.{File, Entered, place_at, place_of, file_in, found}
-use Rattle.hv_plainpp.specs.Groups.{Progress, searching, processing, over, Group, is_processed, judged, line_truth, met_on_line, expression_truth, is_defined, name_truth, answer, progress_at, open_group, going_on, elif_in, progress_at_else, regrouped}
+use Rattle.hv_plainpp.specs.Files.{File, Entered, place_of, file_in, found}
+use Rattle.hv_plainpp.specs.Groups.{Progress, searching, processing, over, Group, is_processed, judged, line_truth, expression_truth, is_defined, name_truth, answer, progress_at, open_group, going_on, elif_in, regrouped}
 use Rattle.hv_plainpp.specs.Laws.{IsFree, DifferInPlace, PlacesDiffer}
-use Rattle.hv_plainpp.specs.Lines.{Piece, text, directive, begins_directive, with_token, lines_of, with_line, pieces_of}
-use Rattle.hv_plainpp.specs.Preprocessing.{Reader, include_file, header_on, define_macro, remove_macro, obeyed, at_end, rest_of_file, cut_file, file, entered, unit_of, unit}
+use Rattle.hv_plainpp.specs.Lines.{Piece, text, directive, begins_directive, lines_of, with_line, pieces_of}
+use Rattle.hv_plainpp.specs.Preprocessing.{Reader, include_file, header_on, define_macro, remove_macro, obeyed, at_end, rest_of_file, cut_file, file, entered, unit_of}
 use Rattle.hv_plainpp.specs.Reading.{Met, Ending, reaches, refused, Reading, reading, refusal, continued, and_then}
 use Rattle.hv_plainpp.specs.Text.{met, with_episode, episodes}
 
@@ -112,15 +112,18 @@ joined : (stack : List ℕ) (lo hi : ℕ) → lo ≤ hi → (ms ns : List Met) �
     → Rest stack hi ns → Rest stack lo (ms ++ ns)
 joined stack lo hi h [] ns p q = rest_later stack lo hi h ns q
 joined stack lo hi h (m ∷ ms) ns p q =
-    let rest : Rest stack lo (ms ++ ns) = joined stack lo hi h ms ns (p.0.1, p.1.1) q in
-    ((free_append m.place ms ns p.0.0 (free_behind stack lo hi m p.1.0 ns q.1), rest.0),
-    (from_between stack lo hi m p.1.0, rest.1))
+    let rest : Rest stack lo (ms ++ ns) = joined stack lo hi h ms ns (p.0.1, p.1.1) q in (
+      (free_append m.place ms ns p.0.0 (free_behind stack lo hi m p.1.0 ns q.1), rest.0),
+      (from_between stack lo hi m p.1.0, rest.1),
+    )
 
 block_wider : (stack : List ℕ) (lo hi low high : ℕ) → low ≤ lo → hi ≤ high → (ms : List Met)
     → Block stack lo hi ms → Block stack low high ms
-block_wider stack lo hi low high h k ms p =
-    (p.0, each_weaken (Between stack lo hi) (Between stack low high)
-    (λ m q. (q.0, omega (arith, h, q.1), omega (arith, k, q.2), q.3)) ms p.1)
+block_wider stack lo hi low high h k ms p = (
+  p.0,
+  each_weaken (Between stack lo hi) (Between stack low high)
+      (λ m q. (q.0, omega (arith, h, q.1), omega (arith, k, q.2), q.3)) ms p.1,
+)
 
 -- an episode of this file itself
 own_block : (at : Entered) (t : PpTok) (face : List Event) (given : List Spelled)
@@ -388,17 +391,23 @@ ReaderPlaced (Some reader) = (at : Entered) (macros : List Entry)
 
 included_block : (stack : List ℕ) (offset : ℕ) (ms : List Met) → Rest (stack ++ offset ∷ []) 0 ms
     → Block stack offset (suc offset) ms
-included_block stack offset ms p =
-    (p.0, each_weaken (From (stack ++ offset ∷ []) 0) (Between stack offset (suc offset))
-    (λ m q. (offset, omega arith, omega arith,
-    (q.0 ∷ q.2.0, q.2.1 ∙ append_append stack (offset ∷ []) (q.0 ∷ q.2.0)))) ms p.1)
+included_block stack offset ms p = (
+  p.0,
+  each_weaken (From (stack ++ offset ∷ []) 0) (Between stack offset (suc offset))
+      (λ m q. (
+        offset,
+        omega arith,
+        omega arith,
+        (q.0 ∷ q.2.0, q.2.1 ∙ append_append stack (offset ∷ []) (q.0 ∷ q.2.0)),
+      )) ms p.1,
+)
 
 found_block : (reader : Reader) → ReaderPlaced (Some reader) → (at : Entered) (hash : PpTok)
     (macros : List Entry) (o : Option File)
     → Block at.stack hash.span.start (suc hash.span.start) (elim o as (λ _. Reading (List Entry)) [
       | None ↦ refusal NoFile (place_of at hash)
       | Some file ↦
-        reader (record { file = file; stack = at.stack ++ hash.span.start ∷ [] }) macros
+          reader (record { file = file; stack = at.stack ++ hash.span.start ∷ [] }) macros
     ]).met
 found_block reader h at hash macros None = (tt, tt)
 found_block reader h at hash macros (Some file) =

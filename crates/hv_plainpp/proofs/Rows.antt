@@ -1,5 +1,5 @@
 -- Small bundles in one configuration, computed: what is left of each, or its refusal with its place.
-use Rattle.std.proofs.Common.{◌≡◌, ℕ, zero, suc, ◌+◌, Bool, true, false, List, [], ◌∷◌, ◌++◌, map, refl, Option, Some, None, inl, inr, ◌⊎◌}
+use Rattle.std.proofs.Common.{◌≡◌, ℕ, Bool, true, false, List, [], ◌∷◌, ◌++◌, map, refl, inl, inr, ◌⊎◌}
 use Rattle.std.specs.Prelude.{codes, drop, is_some, replicate, take}
 use Rattle.hv_base.specs.Bundles.{NamedFiles}
 use Rattle.hv_base.specs.declared.held.Held.{Held}
@@ -372,3 +372,84 @@ with_a = refl
 without_a : left two_faces false ≡ Gives (codes " int putchar ( int ) ; putchar ( ( ( 33 ) * 2 + 1 ) ) ;")
 unfolding entered cut_text episode run trees
 without_a = refl
+
+------ further refusals
+
+open_at_end : left (alone (text_of_lines (codes "int main(void) { return 0; }" ∷ []) ++ codes "/* open")) true
+    ≡ Refuses OpenComment (at [] 0 29)
+unfolding entered cut_text episode run trees
+open_at_end = refl
+
+lone_elif : left (alone (text_of_lines (codes "x" ∷ codes "#elif 1" ∷ []))) true
+    ≡ Refuses Unbalanced (at [] 0 2)
+unfolding entered cut_text episode run trees
+lone_elif = refl
+
+lone_endif : left (alone (text_of_lines (codes "#if 0" ∷ codes "#endif" ∷ codes "#endif" ∷ []))) true
+    ≡ Refuses Unbalanced (at [] 0 13)
+unfolding entered cut_text episode run trees
+lone_endif = refl
+
+number_as_name : left (alone (text_of_lines (codes "#ifdef 1" ∷ []))) true
+    ≡ Refuses BadDirective (at [] 0 0)
+unfolding entered cut_text episode run trees
+number_as_name = refl
+
+odd_header : left (alone (text_of_lines ((codes "#include " ++ (34 ∷ []) ++ codes "\th" ++ (34 ∷ [])) ∷ []))) true
+    ≡ Refuses BadDirective (at [] 0 0)
+unfolding entered cut_text episode run trees
+odd_header = refl
+
+empty_header : left (alone (text_of_lines ((codes "#include " ++ (34 ∷ []) ++ (34 ∷ [])) ∷ []))) true
+    ≡ Refuses BadDirective (at [] 0 0)
+unfolding entered cut_text episode run trees
+empty_header = refl
+
+nothing_removed : left (alone (text_of_lines (codes "#undef" ∷ []))) true
+    ≡ Refuses BadDefine (at [] 0 0)
+unfolding entered cut_text episode run trees
+nothing_removed = refl
+
+-- a question that comes out of an expansion
+late_defined : left (alone (text_of_lines (codes "#define d defined A" ∷ codes "#if d" ∷ []))) true
+    ≡ Refuses BadCondition (at [] 0 20)
+unfolding entered cut_text episode run trees
+late_defined = refl
+
+assigned : left (alone (text_of_lines (codes "#if A = 1" ∷ []))) true
+    ≡ Refuses BadCondition (at [] 0 0)
+unfolding entered cut_text episode run trees
+assigned = refl
+
+-- at the end of a file the text comes before the open group
+not_closed_then_open : left (alone (text_of_lines (codes "#define f(x)" ∷ codes "#if A" ∷ codes "f(" ∷ []))) true
+    ≡ Refuses BadInvocation (at [] 0 19)
+unfolding entered cut_text episode run trees
+not_closed_then_open = refl
+
+------ further groups and headers
+
+within_skipped : left (alone (text_of_lines (codes "#if 0" ∷ codes "#if 0" ∷ codes "#elif 1/0" ∷ codes "#else" ∷ codes "a" ∷ codes "#endif" ∷ codes "#else" ∷ codes "b" ∷ codes "#endif" ∷ []))) true
+    ≡ Gives (codes " b")
+unfolding entered cut_text episode run trees
+within_skipped = refl
+
+no_effect : left (alone (text_of_lines (codes "#pragma x" ∷ codes "#" ∷ codes "a" ∷ codes "# pragma" ∷ []))) true
+    ≡ Gives (codes " a")
+unfolding entered cut_text episode run trees
+no_effect = refl
+
+-- a main file in a folder, and an include folder
+abbrev in_folders : (main : List ℕ) → NamedFiles
+in_folders main = record {
+  main = codes "s/m";
+  dirs = codes "d" ∷ [];
+  entries = (codes "s/m", Bytes main) ∷ (codes "s/h", Bytes (codes "beside"))
+      ∷ (codes "d/h", Bytes (codes "folder")) ∷ (codes "s/k", Absent)
+      ∷ (codes "d/k", Bytes (codes "other")) ∷ (codes "/h", Bytes (codes "root")) ∷ [];
+}
+
+beside_first : left (in_folders (text_of_lines ((codes "#include " ++ (34 ∷ []) ++ codes "h" ++ (34 ∷ [])) ∷ (codes "#include " ++ (34 ∷ []) ++ codes "k" ++ (34 ∷ [])) ∷ codes "#include <h>" ∷ codes "#include </h>" ∷ []))) true
+    ≡ Gives (codes " beside other folder root")
+unfolding entered cut_text episode run trees
+beside_first = refl

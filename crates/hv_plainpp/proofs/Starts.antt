@@ -1,6 +1,5 @@
 -- No two tokens of C of a configuration have one place and one index.
-use Rattle.std.proofs.Common.{◌≡◌, ℕ, zero, suc, ◌+◌, ◌<◌, ◌≤◌, Bool, List, [], ◌∷◌, ◌++◌, flat_map, refl, sym, ap, ◌∙◌, subst, arith, Result, Ok, Err}
-use Rattle.hv_base.specs.Bundles.{NamedFiles}
+use Rattle.std.proofs.Common.{◌≡◌, ℕ, ◌+◌, ◌<◌, List, [], ◌∷◌, ◌++◌, subst, arith, Result, Ok, Err}
 use Rattle.hv_base.specs.declared.place.Place.{Place}
 use Rattle.hv_base.specs.declared.token.CTok.{CTok}
 use Rattle.hv_base.specs.declared.token.CTok.TheVariants.{Keyword, Name, Int, Char, Str, Punct}
@@ -59,9 +58,11 @@ fresh_behind i place face index (s ∷ ts) h =
 own_differ : (place : Place) (face : List Event) (index : ℕ) (ts : List Spelled)
     → Differ (identified place face index ts)
 own_differ place face index [] = tt
-own_differ place face index (s ∷ ts) =
-    (fresh_behind (record { place = place; face = face; index = index }) place face (index + 1) ts
-    (omega arith), own_differ place face (index + 1) ts)
+own_differ place face index (s ∷ ts) = (
+  fresh_behind (record { place = place; face = face; index = index }) place face (index + 1) ts
+      (omega arith),
+  own_differ place face (index + 1) ts,
+)
 
 fresh_elsewhere : (i : Identity) (place : Place) (face : List Event) (index : ℕ)
     (ts : List Spelled) → ¬ (i.place ≡ place) → Fresh i (identified place face index ts)
@@ -78,9 +79,10 @@ fresh_given i (m ∷ ms) h =
 all_fresh : (place : Place) (face : List Event) (index : ℕ) (ts : List Spelled) (ms : List Met)
     → IsFree place ms → Each (λ t. Fresh t.1 (given ms)) (identified place face index ts)
 all_fresh place face index [] ms h = tt
-all_fresh place face index (s ∷ ts) ms h =
-    (fresh_given (record { place = place; face = face; index = index }) ms h,
-    all_fresh place face (index + 1) ts ms h)
+all_fresh place face index (s ∷ ts) ms h = (
+  fresh_given (record { place = place; face = face; index = index }) ms h,
+  all_fresh place face (index + 1) ts ms h,
+)
 
 given_differ : (ms : List Met) → DifferInPlace ms → Differ (given ms)
 given_differ [] h = tt

@@ -1,6 +1,6 @@
 -- The tokens of a translation unit: what identifies each preprocessing token that is left, and the
 -- tokens of C that they become (5.1.1.2, phases 6 and 7).
-use Rattle.std.specs.Prelude.{ℕ, ◌+◌, List, [], ◌∷◌, ◌++◌, flat_map, Result, Ok, Err}
+use Rattle.std.specs.Prelude.{ℕ, ◌+◌, List, [], ◌∷◌, flat_map, Result, Ok, Err}
 use Rattle.hv_base.specs.declared.place.Place.{Place}
 use Rattle.hv_base.specs.declared.token.CTok.{CTok}
 use Rattle.hv_base.specs.declared.why.Why.{Why}

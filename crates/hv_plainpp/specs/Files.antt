@@ -1,5 +1,5 @@
 -- The files of a bundle, and the places in them.
-use Rattle.std.specs.Prelude.{ℕ, ◌+◌, List, [], ◌∷◌, ◌++◌, codes, Option, Some, None, option_map, position}
+use Rattle.std.specs.Prelude.{ℕ, ◌+◌, List, [], ◌∷◌, codes, Option, Some, None, option_map, position}
 use Rattle.std.specs.Str.{bytes_eq}
 use Rattle.hv_base.specs.Bundles.{NamedFiles, held_at, number_at}
 use Rattle.hv_base.specs.declared.held.Held.{Held}

@@ -3,7 +3,6 @@
 use Rattle.std.specs.Prelude.{ℕ, Bool, true, false, not, List, [], ◌∷◌, length, nat_lt, Option, Some, None}
 use Rattle.hv_base.specs.declared.limits.TheConstants.{MOST_GROUPS}
 use Rattle.hv_base.specs.declared.place.Place.{Place}
-use Rattle.hv_base.specs.declared.why.Why.{Why}
 use Rattle.hv_base.specs.declared.why.Why.TheVariants.{BadDirective, Unbalanced, BadCondition, TooDeep}
 use Rattle.hv_toks.specs.Macro.{Macro, undefined, defined}
 use Rattle.hv_toks.specs.declared.token.PpTok.{PpTok}
@@ -14,7 +13,7 @@ use Rattle.hv_plain.specs.episode.Tokens.{is_identifier}
 use Rattle.hv_plainpp.specs.Directives.{Question, expression, is_macro, is_no_macro, Conditional, if_, elif, else_, endif}
 use Rattle.hv_plainpp.specs.Expressions.{truth_of}
 use Rattle.hv_plainpp.specs.Files.{Entered, place_of}
-use Rattle.hv_plainpp.specs.Reading.{Met, Reading, reading, refusal, continued, and_then}
+use Rattle.hv_plainpp.specs.Reading.{Reading, reading, refusal, continued, and_then}
 
 ------ groups
 
@@ -146,10 +145,10 @@ regrouped at macros hash else_ [] = refusal Unbalanced hash
 regrouped at macros hash else_ (g ∷ groups) = elim g.behind_else [
   | true ↦ refusal Unbalanced hash
   | false ↦ reading (record {
-      opened = g.opened;
-      progress = progress_at_else g.progress;
-      behind_else = true;
-    } ∷ groups)
+    opened = g.opened;
+    progress = progress_at_else g.progress;
+    behind_else = true;
+  } ∷ groups)
 ]
 regrouped at macros hash endif [] = refusal Unbalanced hash
 regrouped at macros hash endif (g ∷ groups) = reading groups

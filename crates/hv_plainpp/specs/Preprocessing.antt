@@ -1,6 +1,6 @@
 -- Preprocessing in one configuration (6.10): the lines of a file in order, and those of the files
 -- that it includes. A file is cut whole when it is entered.
-use Rattle.std.specs.Prelude.{ℕ, zero, suc, Bool, true, false, ◌&&◌, List, [], ◌∷◌, ◌++◌, Option, Some, None}
+use Rattle.std.specs.Prelude.{ℕ, zero, suc, true, false, List, [], ◌∷◌, ◌++◌, Option, Some, None}
 use Rattle.hv_base.specs.Bundles.{NamedFiles}
 use Rattle.hv_base.specs.declared.limits.TheConstants.{MOST_INCLUDES}
 use Rattle.hv_base.specs.declared.place.Place.{Place}
@@ -11,7 +11,7 @@ use Rattle.hv_toks.specs.MacroState.{Entry, meaning_of}
 use Rattle.hv_toks.specs.declared.token.PpTok.{PpTok}
 use Rattle.hv_plain.specs.gathering.Mentions.{cut, Header, header_of, is_mention}
 use Rattle.hv_plainpp.specs.Definitions.{Definition, definition, undefined_name}
-use Rattle.hv_plainpp.specs.Directives.{Action, include, define, undef, error, ignored, unknown, Directive, conditional, action, directive_of}
+use Rattle.hv_plainpp.specs.Directives.{Action, include, define, undef, error, ignored, unknown, conditional, action, directive_of}
 use Rattle.hv_plainpp.specs.Files.{File, Entered, place_at, place_of, file_in, found}
 use Rattle.hv_plainpp.specs.Groups.{Group, is_processed, regrouped}
 use Rattle.hv_plainpp.specs.Lines.{Piece, text, directive, lines_of, pieces_of}
@@ -32,7 +32,7 @@ include_file bundle (Some reader) at hash header macros =
     elim (found bundle at.file.name header) [
       | None ↦ refusal NoFile (place_of at hash)
       | Some file ↦
-        reader (record { file = file; stack = at.stack ++ hash.span.start ∷ [] }) macros
+          reader (record { file = file; stack = at.stack ++ hash.span.start ∷ [] }) macros
     ]
 
 -- the header that an `#include` line names, by the tokens behind `include`; `None` where no header

@@ -1,6 +1,6 @@
 -- What reading a part of a translation unit in one configuration comes to: the episodes that were
 -- met, and an end.
-use Rattle.std.specs.Prelude.{ℕ, List, [], ◌∷◌, ◌++◌}
+use Rattle.std.specs.Prelude.{List, [], ◌++◌}
 use Rattle.hv_base.specs.declared.place.Place.{Place}
 use Rattle.hv_base.specs.declared.why.Why.{Why}
 use Rattle.hv_toks.specs.Spelled.{Spelled}
