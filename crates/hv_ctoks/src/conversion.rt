@@ -220,11 +220,7 @@ fn convert_text(
 
 /// The C token that a preprocessing token becomes (5.1.1.2, phase 7), or why the source is refused.
 /// Linear in the length of its spelling.
-pub fn convert(
-    alloc: Global,
-    token: &PpTok,
-    reserved: ReservedNames,
-) -> Result<CTok, TokenFault>
+pub fn convert(alloc: Global, token: &PpTok, reserved: ReservedNames) -> Result<CTok, TokenFault>
     ensures ok { IfOk result (λ tok.
         conversion.converted reserved token.now.kind token.now.text ≡ Ok tok) }
     // the source is refused so; want of memory alone may be answered at any token
