@@ -24,7 +24,7 @@ module _ (quote i : ℕ) (bytes old out : List ℕ)
   printed-more byte new h e add =
       let before : List ℕ = take i bytes in
       let next : printed_bytes quote (take (i + 1) bytes)
-          ≡ printed_bytes quote before ++ printed_byte quote byte =
+      ≡ printed_bytes quote before ++ printed_byte quote byte =
       ap (printed_bytes quote) (take_more bytes i 0 h)
       ∙ (printed_bytes-append quote before (get_or bytes i 0 ∷ [])
       ∙ (ap (λ more. printed_bytes quote before ++ more)

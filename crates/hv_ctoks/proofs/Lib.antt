@@ -1,6 +1,7 @@
 pub mod CharactersLemmas
 pub mod CutOffs
 pub mod FloatingLemmas
+pub mod Images
 pub mod ListsReadBack
 pub mod PrintedBytes
 pub mod ReadBack

@@ -67,11 +67,11 @@ module _ (d : ℕ → Bool) (q : List ℕ → Bool) (refuses : Refuses d q) wher
       ≡ (nat_lt 0 (cond b (1 + prefix_len d xs) 0)
       && q (drop (cond b (1 + prefix_len d xs) 0) (x ∷ xs)))) [
         | true ↦ λ e. rw (
-            one-add,
-            positive (prefix_len d xs),
-            sequence-gate (d x) (list_all d) q xs,
-            e,
-          ) (sequence-all xs)
+          one-add,
+          positive (prefix_len d xs),
+          sequence-gate (d x) (list_all d) q xs,
+          e,
+        ) (sequence-all xs)
         | false ↦ λ e. rw (sequence-gate (d x) (list_all d) q xs, e) refl
       ] refl
 

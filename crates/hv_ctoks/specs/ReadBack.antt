@@ -4,6 +4,7 @@ use Rattle.std.specs.List.{All}
 use Rattle.std.specs.Str.{bytes_eq}
 use Rattle.hv_base.specs.declared.token.CTok.{CTok}
 use Rattle.hv_base.specs.declared.why.Why.{Why}
+use Rattle.hv_toks.specs.declared.token.PpKind.{PpKind}
 use Rattle.hv_toks.specs.declared.token.PpTok.{PpTok}
 use Rattle.hv_toks.specs.Cutting.{IsCut, tokens, whole_token}
 use Rattle.hv_lexer.specs.Printed.{Piece, spaced}
@@ -11,6 +12,13 @@ use Rattle.hv_ctoks.specs.Conversion.{converted}
 use Rattle.hv_ctoks.specs.Spelling.{spelling}
 use Rattle.hv_ctoks.specs.Tokens.{is_token, kind_of}
 use Rattle.hv_ctoks.specs.declared.reserved.ReservedNames.{ReservedNames}
+
+-- a preprocessing token of this kind and spelling becomes nothing but C tokens of its kind, with
+-- values in their types' ranges
+abbrev pub BecomesToken : ReservedNames → PpKind → List ℕ → Type 0
+BecomesToken reserved kind text =
+    (tok : CTok) → converted reserved kind text ≡ Ok tok
+    → (kind_of tok ≡ kind) × IsTrue (is_token reserved tok)
 
 -- its spelling is one preprocessing token, which becomes this C token
 abbrev pub IsReadBack : ReservedNames → CTok → Type 0

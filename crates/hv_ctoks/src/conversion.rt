@@ -1,9 +1,14 @@
 //! A preprocessing token becomes a C token, translation phase 7 (ISO/IEC 9899:1999, 5.1.1.2, 6.4).
-ghost use Rattle.std.specs.Prelude.{◌≡◌, Ok, Err, None, IfOk, IfErr};
+ghost use Rattle.std.specs.Prelude.{◌≡◌, ℕ, List, Ok, Err, None, IfOk, IfErr, IsTrue};
+ghost use Rattle.std.specs.List.{list_all};
 ghost use Rattle.hv_ctoks.specs.Conversion as conversion;
 ghost use Rattle.hv_ctoks.specs.Conversion.{IsFaultOf};
 ghost use Rattle.hv_ctoks.specs.working.Kinds.{is_string_kind};
+ghost use Rattle.hv_ctoks.specs.ReadBack.{BecomesToken};
+ghost use Rattle.hv_ctoks.specs.Tokens.{is_byte};
+ghost use Rattle.hv_lexer.specs.Printed.{is_spelling};
 ghost use Rattle.hv_toks.specs.Lexical as lexical;
+ghost use Rattle.hv_toks.specs.declared.token.PpKind.{PpKind as PpKindOf};
 
 use crate::floating::is_floating;
 use crate::literal::read_string_literal;
@@ -193,21 +198,17 @@ fn punctuator(text: &[u8]) -> Result<CTok, TokenFault>
     }
 }
 
-/// The C token that a preprocessing token becomes (5.1.1.2, phase 7), or why the source is refused.
-/// Linear in the length of its spelling.
-pub fn convert(
+/// What a preprocessing token of this kind and spelling becomes.
+fn convert_text(
     alloc: Global,
-    token: &PpTok,
     reserved: ReservedNames,
+    kind: PpKind,
+    text: &[u8],
 ) -> Result<CTok, TokenFault>
-    ensures ok { IfOk result (λ tok.
-        conversion.converted reserved token.now.kind token.now.text ≡ Ok tok) }
-    // the source is refused so; want of memory alone may be answered at any token
-    ensures refused { IfErr result
-        (IsFaultOf (conversion.converted reserved token.now.kind token.now.text)) }
+    ensures ok { IfOk result (λ tok. conversion.converted reserved kind text.now ≡ Ok tok) }
+    ensures refused { IfErr result (IsFaultOf (conversion.converted reserved kind text.now)) }
 {
-    let text = token.text.as_slice();
-    match token.kind {
+    match kind {
         PpKind::Identifier => identifier(alloc, reserved, text),
         PpKind::Number => number(text),
         PpKind::CharConstant => character(text),
@@ -215,4 +216,19 @@ pub fn convert(
         PpKind::Punctuator => punctuator(text),
         PpKind::HeaderName | PpKind::Other => Err(TokenFault::Plain(Why::Syntax)),
     }
+}
+
+/// The C token that a preprocessing token becomes (5.1.1.2, phase 7), or why the source is refused.
+/// Linear in the length of its spelling.
+pub fn convert(alloc: Global, token: &PpTok, reserved: ReservedNames) -> Result<CTok, TokenFault>
+    ensures ok { IfOk result (λ tok.
+        conversion.converted reserved token.now.kind token.now.text ≡ Ok tok) }
+    // the source is refused so; want of memory alone may be answered at any token
+    ensures refused { IfErr result
+        (IsFaultOf (conversion.converted reserved token.now.kind token.now.text)) }
+    // a spelling of its kind becomes no other C tokens than those of the profile
+    ensures token { (kind : PpKindOf) (text : List ℕ) → IsTrue (is_spelling kind text)
+        → IsTrue (list_all is_byte text) → BecomesToken reserved kind text }
+{
+    convert_text(alloc, reserved, token.kind, token.text.as_slice())
 }

@@ -12,7 +12,9 @@ fn hexadecimal_len(text: &[u8]) -> usize
     ensures value { result ≡ prefix_len constants.is_hexadecimal text.now }
     ensures within { result ≤ length text.now }
 {
-    text.iter().take_while(|byte| is_hexadecimal(**byte)).count()
+    text.iter()
+        .take_while(|byte| is_hexadecimal(**byte))
+        .count()
 }
 
 /// How many octal digits the text begins with.

@@ -46,8 +46,18 @@ fn numbers_have_their_values_and_types(rt: HostRuntime) -> Result<(), Fail> {
         ("2147483647", 2_147_483_647, Int, "2147483647"),
         ("2147483648", 2_147_483_648, Long, "2147483648L"),
         ("0xffffffff", 4_294_967_295, UInt, "4294967295U"),
-        ("0x7fffffffffffffff", (1 << 63) - 1, Long, "9223372036854775807L"),
-        ("01777777777777777777777", u64::MAX, ULong, "18446744073709551615UL"),
+        (
+            "0x7fffffffffffffff",
+            (1 << 63) - 1,
+            Long,
+            "9223372036854775807L",
+        ),
+        (
+            "01777777777777777777777",
+            u64::MAX,
+            ULong,
+            "18446744073709551615UL",
+        ),
         ("4294967296u", 4_294_967_296, ULong, "4294967296UL"),
         ("1uLL", 1, ULongLong, "1ULL"),
         ("017LL", 15, LongLong, "15LL"),
@@ -124,7 +134,16 @@ fn words_and_signs_are_spelled_as_they_are(rt: HostRuntime) -> Result<(), Fail> 
         spell(&mut out, &tok)?;
         assert!(rt; out.is_text(text.as_bytes()), "at {text}");
     }
-    for text in ["whiles", "gotos", "h", "hv", "Hv_x", "_hv_", "__STDC__", "__VA_ARGS__"] {
+    for text in [
+        "whiles",
+        "gotos",
+        "h",
+        "hv",
+        "Hv_x",
+        "_hv_",
+        "__STDC__",
+        "__VA_ARGS__",
+    ] {
         let tok = converted(rt.alloc(), PpKind::Identifier, text.as_bytes())?;
         let wanted = CTok::Name(Text::from_slice(rt.alloc(), text.as_bytes())?);
         assert!(rt; is_same(&tok, &wanted), "at {text}");
@@ -179,7 +198,10 @@ fn refusals_have_the_smaller_number(rt: HostRuntime) {
     ];
     for (kind, text, why) in table {
         let answer = converted(rt.alloc(), kind, text.as_bytes());
-        assert!(rt; matches!(answer, Err(TokenFault::Plain(refusal)) if refusal == why), "at {text}");
+        assert!(rt;
+            matches!(answer, Err(TokenFault::Plain(refusal)) if refusal == why),
+            "at {text}"
+        );
     }
 }
 
