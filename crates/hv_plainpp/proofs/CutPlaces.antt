@@ -1,5 +1,6 @@
 -- The tokens of a file begin at offsets that rise.
-use Rattle.std.proofs.Common.{◌≡◌, ℕ, zero, suc, ◌+◌, ◌<◌, ◌≤◌, Bool, true, false, cond, List, [], ◌∷◌, map, length, take, drop, refl, sym, ap, ◌∙◌, subst, arith, ◌==◌, ◌||◌, ◌&&◌, nat_lt}
+use Rattle.std.proofs.lemmas.List.{length-map}
+use Rattle.std.proofs.Common.{◌≡◌, ℕ, zero, suc, ◌+◌, ◌<◌, ◌≤◌, Bool, true, false, cond, List, [], ◌∷◌, map, length, take, drop, refl, sym, ◌∙◌, subst, arith, ◌==◌, ◌||◌, ◌&&◌, nat_lt}
 use Rattle.std.specs.Prelude.{codes, nat_eq, slice_index}
 use Rattle.std.specs.List.{starts_with}
 use Rattle.std.proofs.lemmas.Bool.{false≢true}
@@ -80,14 +81,10 @@ marks_rise zero offset (byte ∷ bytes) =
     spliced_rise (splice_len (byte ∷ bytes)) offset byte bytes
     (λ deleted. marks_rise deleted (offset + 1) bytes)
 
-length_map : {A B : Type 0} (f : A → B) (xs : List A) → length (map f xs) ≡ length xs
-length_map f [] = refl
-length_map f (x ∷ xs) = ap suc (length_map f xs)
-
 as_long : (bytes : List ℕ) → length (spliced bytes) ≡ length (offsets bytes)
 as_long bytes =
-    length_map (λ (m : Mark). m.byte) (marks_from 0 0 bytes)
-    ∙ sym (length_map (λ (m : Mark). m.offset) (marks_from 0 0 bytes))
+    length-map (marks_from 0 0 bytes) (λ (m : Mark). m.byte)
+    ∙ sym (length-map (marks_from 0 0 bytes) (λ (m : Mark). m.offset))
 
 long_drop : (k : ℕ) (xs ys : List ℕ) → length xs ≡ length ys
     → length (drop k xs) ≡ length (drop k ys)

@@ -1,4 +1,5 @@
 -- A file without directives and without names of macros gives its own tokens.
+use Rattle.std.proofs.lemmas.List.{append-nil, length-map}
 use Rattle.std.proofs.Common.{◌≡◌, ℕ, suc, ◌-◌, Bool, true, false, List, [], ◌∷◌, ◌++◌, map, length, nat_le, refl, subst, sym, ap, ◌∙◌, Option, arith}
 use Rattle.std.proofs.lemmas.Bool.Decides.{nat_tests}
 use Rattle.hv_toks.specs.Macro.{Macro, undefined}
@@ -43,10 +44,6 @@ lines_all [] = refl
 lines_all (t ∷ toks) =
     with_token_all t (lines_of toks) ∙ ap (λ (r : List PpTok). t ∷ r) (lines_all toks)
 
-append_nil : {A : Type 0} (xs : List A) → xs ++ [] ≡ xs
-append_nil [] = refl
-append_nil {A} (x ∷ xs) = ap (λ (r : List A). x ∷ r) (append_nil xs)
-
 -- the pieces of a file that has no directive
 abbrev whole : List PpTok → List Piece
 whole [] = []
@@ -55,7 +52,7 @@ whole (t ∷ toks) = text (t ∷ toks) FileEnd ∷ []
 with_line_whole : (t : PpTok) (line toks : List PpTok)
     → with_line (t ∷ line) (whole toks) ≡ whole (t ∷ (line ++ toks))
 with_line_whole t line [] =
-    ap (λ (r : List PpTok). text (t ∷ r) FileEnd ∷ []) (sym (append_nil line))
+    ap (λ (r : List PpTok). text (t ∷ r) FileEnd ∷ []) (sym (append-nil line))
 with_line_whole t line (u ∷ toks) = refl
 
 ordinary_right : (macros : List Entry) (xs ys : List PpTok) → AreOrdinary macros (xs ++ ys)
@@ -111,10 +108,6 @@ gives_itself ends macros left t s e h =
       ]
     ]))) h)
 
-length_map : {A B : Type 0} (f : A → B) (xs : List A) → length (map f xs) ≡ length xs
-length_map f [] = refl
-length_map f (x ∷ xs) = ap suc (length_map f xs)
-
 le_refl : (n : ℕ) → nat_le n n ≡ true
 le_refl n = grind (arith, nat_tests)
 
@@ -136,7 +129,7 @@ one_episode macros t toks e =
       unread = length (t ∷ toks) - 1;
       given = [];
     }) e
-    (ap (λ (n : ℕ). nat_le n (length (t ∷ toks) - 1)) (length_map source_token toks)
+    (ap (λ (n : ℕ). nat_le n (length (t ∷ toks) - 1)) (length-map toks source_token)
     ∙ (ap (nat_le (length toks)) (less_one t toks) ∙ le_refl (length toks)))
 
 -- none of the tokens behind are the episode's own
@@ -166,7 +159,7 @@ rest_own bundle reader at macros (t ∷ toks) h =
     ap (λ (r : Reading (Unit {0})). and_then r (λ done. reading macros))
     (episodes_own at macros (t ∷ toks) h)
     ∙ ap (λ (met : List Met). record { met = met; ending = reaches macros })
-    (append_nil (map (own_episode at) (t ∷ toks)))
+    (append-nil (map (own_episode at) (t ∷ toks)))
 
 pub ordinary_text : OrdinaryText
 ordinary_text bundle reader at toks macros cuts h =

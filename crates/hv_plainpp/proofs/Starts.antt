@@ -9,7 +9,8 @@ use Rattle.hv_ctoks.specs.Joining.{before_joined, joined}
 use Rattle.hv_ctoks.specs.declared.reserved.ReservedNames.{ReservedNames}
 use Rattle.hv_model.specs.Beginning.{beginning}
 use Rattle.hv_plain.specs.episode.Expansion.{Event}
-use Rattle.hv_plainpp.proofs.Placement.{places_differ}
+use Rattle.hv_plainpp.proofs.Items.{Each, each_append}
+use Rattle.hv_plainpp.proofs.FilePlacement.{places_differ}
 use Rattle.hv_plainpp.specs.CTokens.{Identity, identified, given, with_token, c_tokens, with_strings_joined, ending_of}
 use Rattle.hv_plainpp.specs.Laws.{IsFree, DifferInPlace, IsNew, DifferInStart, StartsDiffer}
 use Rattle.hv_plainpp.specs.Preprocessing.{unit}
@@ -22,15 +23,6 @@ use Rattle.hv_toks.specs.Spelled.{Spelled}
 -- two identities have one place and one index
 abbrev Same : Identity → Identity → Type 0
 Same i j = (i.place ≡ j.place) × (i.index ≡ j.index)
-
-abbrev Each : {A : Type 0} → (A → Type 0) → List A → Type 0
-Each P [] = Unit {0}
-Each P (x ∷ xs) = P x × Each P xs
-
-each_append : {A : Type 0} (P : A → Type 0) (xs ys : List A) → Each P xs → Each P ys
-    → Each P (xs ++ ys)
-each_append P [] ys p q = q
-each_append P (x ∷ xs) ys p q = (p.0, each_append P xs ys p.1 q)
 
 -- none of these preprocessing tokens has this place and index
 abbrev Fresh : Identity → List (Spelled × Identity) → Type 0

@@ -1,4 +1,4 @@
-use Rattle.hv_plainpp.proofs.Placement.{places_differ}
+use Rattle.hv_plainpp.proofs.FilePlacement.{places_differ}
 use Rattle.hv_plainpp.proofs.places_differ.Goals as goal
 
 pub returns : goal.returns
