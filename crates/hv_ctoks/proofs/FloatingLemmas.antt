@@ -1,5 +1,5 @@
 -- A floating constant is read from the left.
-use Rattle.std.proofs.Common.{◌≡◌, ℕ, ◌+◌, ◌&&◌, ◌||◌, Bool, true, false, cond, List, [], ◌∷◌, refl, sym, ◌∙◌, ap, drop, one-add, arith}
+use Rattle.std.proofs.Common.{◌≡◌, ℕ, ◌+◌, ◌&&◌, ◌||◌, Bool, true, false, cond, List, [], ◌∷◌, refl, sym, ◌∙◌, ap, drop, arith}
 use Rattle.std.specs.Prelude.{nat_lt}
 use Rattle.std.specs.List.{prefix_len}
 use Rattle.std.proofs.lemmas.Bool.Decides.{nat_tests}
@@ -8,7 +8,7 @@ use Rattle.hv_toks.specs.Constants.{is_x}
 use Rattle.hv_toks.specs.Lexical.{is_sign}
 use Rattle.hv_ctoks.specs.declared.floating.Base.{Base}
 use Rattle.hv_ctoks.specs.declared.floating.Base.TheVariants.{Decimal, Hexadecimal}
-use Rattle.hv_ctoks.specs.Floating.{sequence, maybe, one, some, is_digit_of, is_point, is_exponent_letter, is_suffix, is_zero, power, signed_power, exponent, ending, with_fraction, with_point, without_point, is_floating, is_floating_of, is_hexadecimal}
+use Rattle.hv_ctoks.specs.Floating.{sequence, maybe, one, some, is_digit_of, is_point, is_exponent_letter, is_suffix, is_zero, power, signed_power, exponent, ending, is_floating, is_floating_of, is_hexadecimal}
 use Rattle.hv_ctoks.specs.working.Scanning.{after, begins, scan_power, scan_signed_power, scan_exponent, scan_ending, scan_fraction, scan_rest, scan_floating, scan_x, scan_hexadecimal}
 use Rattle.hv_ctoks.proofs.Sequences.{Refuses, sequence-one, sequence-maybe_one, sequence-some, sequence-maybe_some}
 

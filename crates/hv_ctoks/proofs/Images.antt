@@ -1,6 +1,6 @@
 -- What a preprocessing token becomes is a C token of its kind, whose value is in its type's range.
-use Rattle.std.proofs.Common.{◌≡◌, ℕ, zero, suc, ◌+◌, ◌-◌, ◌<◌, ◌&&◌, ◌||◌, Bool, true, false, cond, List, [], ◌∷◌, refl, length, take, Option, Some, None, arith}
-use Rattle.std.specs.Prelude.{nat_lt, nat_le, ◌==◌, pos, negsuc, option_and_then, IfSome, Result, Ok, Err, slice_index}
+use Rattle.std.proofs.Common.{◌≡◌, ℕ, zero, suc, ◌+◌, ◌-◌, ◌&&◌, ◌||◌, Bool, true, false, cond, List, [], ◌∷◌, refl, length, take, Option, Some, None, arith}
+use Rattle.std.specs.Prelude.{nat_lt, nat_le, ◌==◌, pos, negsuc, option_and_then, IfSome, Ok, Err, slice_index}
 use Rattle.std.specs.List.{list_all}
 use Rattle.std.proofs.lemmas.Bool.Decides.{nat_tests}
 use Rattle.hv_base.proofs.Booleans.{and_both, and_left, and_right}
@@ -12,7 +12,6 @@ use Rattle.hv_base.specs.declared.punct.Punct.{Punct as PunctOf}
 use Rattle.hv_base.specs.declared.token.CTok.{CTok}
 use Rattle.hv_base.specs.declared.token.CTok.TheVariants.{Keyword, Name, Int, Char, Str, Punct}
 use Rattle.hv_base.specs.declared.token.IntType.{IntType}
-use Rattle.hv_base.specs.declared.why.Why.{Why}
 use Rattle.hv_base.specs.declared.why.Why.TheVariants.{LeftOut, Syntax, Reserved}
 use Rattle.hv_toks.specs.Constants.{as_byte, before_all, char_constant, character, characters, escape, int_constant, integer, limit, more_len, string_literal, type_of, typed, types}
 use Rattle.hv_toks.specs.Lexical.{is_identifier, is_string_literal}

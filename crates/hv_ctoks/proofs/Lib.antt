@@ -1,5 +1,6 @@
 pub mod CharactersLemmas
 pub mod CutOffs
+mod Examples
 pub mod FloatingLemmas
 pub mod Images
 pub mod ListsReadBack

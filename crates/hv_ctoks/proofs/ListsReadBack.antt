@@ -1,25 +1,23 @@
 -- A printed list of C tokens is cut into tokens that become them again.
-use Rattle.std.proofs.Common.{◌≡◌, ℕ, ◌<◌, ◌||◌, Bool, true, false, cond, not, List, [], ◌∷◌, ◌++◌, map, refl, sym, ◌∙◌, ap, arith, length, take, drop, codes}
-use Rattle.std.specs.Prelude.{nat_lt, Result, Ok}
+use Rattle.std.proofs.Common.{◌≡◌, ℕ, ◌<◌, ◌||◌, Bool, true, false, cond, not, List, [], ◌∷◌, ◌++◌, map, refl, ◌∙◌, ap, arith, length, take, drop, codes}
+use Rattle.std.specs.Prelude.{nat_lt, Ok}
 use Rattle.std.specs.List.{All}
 use Rattle.std.specs.Str.{bytes_eq}
 use Rattle.std.proofs.lemmas.Bool.Decides.{nat_tests}
 use Rattle.std.proofs.lemmas.List.{take_at, drop_at}
 use Rattle.std.proofs.lemmas.List.Elements.{All-cons, All-head, All-nil, All-tail}
-use Rattle.hv_base.specs.declared.token.CTok.{CTok}
-use Rattle.hv_base.specs.declared.why.Why.{Why}
 use Rattle.hv_toks.specs.declared.prefix.Prefix.TheVariants.{Token}
 use Rattle.hv_toks.specs.declared.prefix.LinePrefix.{LinePrefix}
 use Rattle.hv_toks.specs.declared.prefix.LinePrefix.TheVariants.{Start, Hash, Include, Rest}
 use Rattle.hv_toks.specs.declared.prefix.Match.{Match}
 use Rattle.hv_toks.specs.declared.token.PpTok.{PpTok}
 use Rattle.hv_toks.specs.Splices.{spliced, offsets}
-use Rattle.hv_toks.specs.Cutting.{Cuts, IsCut, tokens, at_end, at_white, at_newline, at_token, found, is_start, longest_token, token_at, prefix, line_after, token}
-use Rattle.hv_lexer.specs.Printed.{gap, spaced}
+use Rattle.hv_toks.specs.Cutting.{Cuts, tokens, at_end, at_white, at_newline, at_token, found, is_start, longest_token, token_at, prefix, line_after, token}
+use Rattle.hv_lexer.specs.Printed.{gap}
 use Rattle.hv_lexer.proofs.Pieces.{Parts, Gap, parts}
 use Rattle.hv_lexer.proofs.Unspliced.{IsUnspliced, spliced_same, one_not}
 use Rattle.hv_ctoks.specs.Conversion.{converted}
-use Rattle.hv_ctoks.specs.ReadBack.{Printed, piece_of, text_of, IsPrintable, becomes, is_apart, AreReadBack}
+use Rattle.hv_ctoks.specs.ReadBack.{Printed, text_of, IsPrintable, becomes, is_apart, AreReadBack}
 use Rattle.hv_ctoks.specs.Spelling.{spelling}
 use Rattle.hv_ctoks.specs.Tokens.{kind_of}
 use Rattle.hv_ctoks.specs.declared.reserved.ReservedNames.{ReservedNames}

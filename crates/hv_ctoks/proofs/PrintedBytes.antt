@@ -1,9 +1,9 @@
 -- A byte that is printed between quotes is read back, and closes no quote.
-use Rattle.std.proofs.Common.{◌≡◌, ℕ, zero, suc, ◌+◌, ◌-◌, ◌*◌, ◌/◌, ◌%◌, ◌^◌, ◌<◌, ◌≤◌, ◌&&◌, ◌||◌, Bool, true, false, cond, not, List, [], ◌∷◌, ◌++◌, refl, sym, ◌∙◌, ap, append_assoc, Option, Some, None, arith}
-use Rattle.std.specs.Prelude.{nat_lt, ◌==◌, min}
-use Rattle.std.specs.List.{list_all, prefix_len}
+use Rattle.std.proofs.Common.{◌≡◌, ℕ, ◌+◌, ◌*◌, ◌/◌, ◌%◌, ◌^◌, ◌<◌, true, false, cond, List, [], ◌∷◌, ◌++◌, refl, ◌∙◌, ap, append_assoc, Some, arith}
+use Rattle.std.specs.Prelude.{nat_lt, ◌==◌}
+use Rattle.std.specs.List.{list_all}
 use Rattle.std.proofs.lemmas.Bool.Decides.{nat_tests}
-use Rattle.hv_base.proofs.Booleans.{and_left, and_right, and_parts, not_true}
+use Rattle.hv_base.proofs.Booleans.{and_left, and_right}
 use Rattle.hv_toks.specs.Constants.{before_all, character, characters, digit, is_octal, more_len, number}
 use Rattle.hv_toks.specs.Lexical.{closes}
 use Rattle.hv_ctoks.specs.Spelling.{is_plain, octal, printed_byte, printed_bytes}

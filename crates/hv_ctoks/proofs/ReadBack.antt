@@ -1,14 +1,14 @@
 -- What a C token is printed as becomes this token again.
-use Rattle.std.proofs.Common.{◌≡◌, ℕ, zero, suc, ◌+◌, ◌-◌, ◌%◌, ◌^◌, ◌<◌, ◌≤◌, ◌&&◌, ◌||◌, Bool, true, false, cond, not, List, [], ◌∷◌, ◌++◌, refl, sym, ◌∙◌, ap, length, take, Option, Some, None, arith}
-use Rattle.std.specs.Prelude.{codes, nat_le, nat_lt, ◌==◌, ℤ, pos, negsuc, is_some, Result, Ok, Err, slice_index}
+use Rattle.std.proofs.Common.{◌≡◌, ℕ, ◌+◌, ◌-◌, ◌%◌, ◌^◌, ◌<◌, ◌≤◌, Bool, true, false, not, List, [], ◌∷◌, ◌++◌, refl, ◌∙◌, ap, length, take, Option, Some, None, arith}
+use Rattle.std.specs.Prelude.{nat_le, nat_lt, ℤ, pos, negsuc, is_some, Ok, slice_index}
 use Rattle.std.specs.Fmt.{decimal}
 use Rattle.std.specs.List.{list_all}
 use Rattle.std.specs.Str.Parse.{AllDigits}
 use Rattle.std.proofs.lemmas.Bool.Decides.{nat_tests}
-use Rattle.std.proofs.lemmas.Fmt.{decimal_digit, decimal_is_IsNumeral, first_decimal}
+use Rattle.std.proofs.lemmas.Fmt.{decimal_is_IsNumeral}
 use Rattle.std.proofs.lemmas.List.{append-nil, get_or_push, length_push, take_at}
 use Rattle.std.proofs.lemmas.Str.Parse.{digit_from_value}
-use Rattle.hv_base.proofs.Booleans.{and_left, and_right, not_true, or_false}
+use Rattle.hv_base.proofs.Booleans.{and_left, and_right, not_true}
 use Rattle.hv_base.proofs.KeywordsLemmas as keywords_lemmas
 use Rattle.hv_base.proofs.PunctsLemmas as puncts_lemmas
 use Rattle.hv_base.specs.Ascii.{is_identifier_byte}
@@ -22,7 +22,6 @@ use Rattle.hv_base.specs.declared.token.CTok.{CTok}
 use Rattle.hv_base.specs.declared.token.CTok.TheVariants.{Keyword, Name, Int, Char, Str, Punct}
 use Rattle.hv_base.specs.declared.token.IntType.{IntType}
 use Rattle.hv_base.specs.declared.token.IntType.TheVariants.{Int as IntKind, UInt, Long as LongKind, ULong, LongLong as LongLongKind, ULongLong}
-use Rattle.hv_base.specs.declared.why.Why.{Why}
 use Rattle.hv_toks.specs.Constants.{char_constant, character, characters, limit, printed_int, printed_suffix, string_literal}
 use Rattle.hv_toks.specs.Lexical.{continues_number, is_char_constant, is_exponent, is_identifier, is_number, is_punctuator, is_string_literal}
 use Rattle.hv_toks.proofs.ReadsBack.{reads_back}

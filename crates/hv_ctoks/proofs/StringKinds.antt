@@ -1,5 +1,5 @@
 -- A text is a string literal exactly where it is one token of that kind.
-use Rattle.std.proofs.Common.{◌≡◌, ℕ, Bool, true, false, List, refl, sym, ◌∙◌, ap, Option, Some, None}
+use Rattle.std.proofs.Common.{◌≡◌, ℕ, Bool, true, List, refl, ◌∙◌, ap, Option, Some, None}
 use Rattle.hv_base.proofs.Booleans.{same_truth}
 use Rattle.hv_toks.specs.Cutting.{whole_token}
 use Rattle.hv_toks.specs.Lexical.{is_string_literal}

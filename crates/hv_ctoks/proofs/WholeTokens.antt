@@ -1,5 +1,5 @@
 -- A spelling of a category is one token: all of it is the longest token that it begins with.
-use Rattle.std.proofs.Common.{◌≡◌, ℕ, zero, suc, ◌<◌, ◌≤◌, ◌&&◌, ◌||◌, inl, inr, Bool, true, false, cond, not, List, [], ◌∷◌, refl, sym, ◌∙◌, ap, length, take, codes, Option, Some, None, arith}
+use Rattle.std.proofs.Common.{◌≡◌, ℕ, zero, suc, ◌<◌, ◌≤◌, ◌&&◌, inl, inr, Bool, true, false, cond, not, List, [], ◌∷◌, refl, sym, ◌∙◌, ap, length, take, codes, Some, arith}
 use Rattle.std.specs.Prelude.{nat_lt, nat_eq, ◌==◌}
 use Rattle.std.specs.List.{list_any, starts_with}
 use Rattle.std.proofs.Math.Seq.{take-length}
@@ -10,7 +10,7 @@ use Rattle.hv_toks.specs.declared.prefix.LinePrefix.TheVariants.{Rest}
 use Rattle.hv_toks.specs.declared.prefix.Prefix.TheVariants.{Token}
 use Rattle.hv_toks.specs.declared.token.PpKind.{PpKind}
 use Rattle.hv_toks.specs.declared.token.PpKind.TheVariants.{Identifier, Number, CharConstant, StringLiteral, HeaderName, Punctuator, Other}
-use Rattle.hv_toks.specs.Cutting.{found, longest_token, prefix, token_at, whole_kind, whole_token}
+use Rattle.hv_toks.specs.Cutting.{found, longest_token, prefix, token_at, whole_token}
 use Rattle.hv_toks.specs.Lexical.{closes, longest, is_identifier, is_number, is_char_constant, is_string_literal, is_punctuator}
 use Rattle.hv_lexer.specs.Printed.{is_spelling}
 use Rattle.hv_lexer.proofs.ByteTests.{never_both, two}

@@ -1,7 +1,7 @@
 -- What C token a preprocessing token becomes, translation phase 7 (5.1.1.2, 6.4), or why the source
 -- is refused there. Where two refusals fit, the one with the smaller number counts.
 -- Not in here: where a token stands, and the joining of adjacent string literals.
-use Rattle.std.specs.Prelude.{◌≡◌, ℕ, ◌-◌, ◌==◌, ◌&&◌, Bool, true, false, cond, nat_eq, nat_lt, List, [], ◌∷◌, codes, ℤ, pos, negsuc, Option, Some, None, is_some, Result, Ok, Err}
+use Rattle.std.specs.Prelude.{◌≡◌, ℕ, ◌-◌, ◌==◌, ◌&&◌, Bool, false, cond, nat_eq, nat_lt, List, [], ◌∷◌, codes, ℤ, pos, negsuc, Option, Some, None, is_some, Result, Ok, Err}
 use Rattle.std.specs.List.{starts_with}
 use Rattle.hv_base.specs.Ascii as ascii
 use Rattle.hv_base.specs.Ascii.{is_among}

@@ -1,6 +1,6 @@
 -- Floating constants (6.4.4.2), which the profile leaves out: whether a text is one.
 -- Not in here: their values.
-use Rattle.std.specs.Prelude.{ℕ, Bool, true, false, ◌&&◌, ◌||◌, ◌==◌, List, [], ◌∷◌}
+use Rattle.std.specs.Prelude.{ℕ, Bool, false, ◌&&◌, ◌||◌, ◌==◌, List, [], ◌∷◌}
 use Rattle.std.specs.List.{list_all}
 use Rattle.hv_base.specs.Ascii as ascii
 use Rattle.hv_base.specs.Ascii.{is_digit, is_empty}
@@ -88,7 +88,8 @@ without_point base text = sequence (some (is_digit_of base)) (exponent base) tex
 
 -- a floating constant, of a hexadecimal one what stands after its `0x`
 abbrev pub is_floating_of : Base → List ℕ → Bool
-is_floating_of base text = with_fraction base text || with_point base text || without_point base text
+is_floating_of base text =
+    with_fraction base text || with_point base text || without_point base text
 
 -- `0`
 abbrev pub is_zero : ℕ → Bool

@@ -14,8 +14,8 @@ octal byte =
     ascii.backslash ∷ (ascii.zero_digit + byte / 64) ∷ (ascii.zero_digit + byte / 8 % 8)
     ∷ (ascii.zero_digit + byte % 8) ∷ []
 
--- whether a byte between such quotes is printed as itself: it prints, and is neither the quote nor a
--- backslash
+-- whether a byte between such quotes is printed as itself: it prints, and is neither the quote
+-- nor a backslash
 abbrev pub is_plain : (quote : ℕ) → ℕ → Bool
 is_plain quote byte =
     is_printable byte && not (byte == quote) && not (byte == ascii.backslash)

@@ -1,5 +1,5 @@
 -- The C tokens that preprocessing tokens become, and of which kind those are that become them.
-use Rattle.std.specs.Prelude.{ℕ, ◌&&◌, Bool, true, false, not, nat_le, nat_lt, List, [], ◌∷◌, ℤ, pos, negsuc, is_some}
+use Rattle.std.specs.Prelude.{ℕ, ◌&&◌, Bool, true, not, nat_le, nat_lt, List, ℤ, pos, negsuc, is_some}
 use Rattle.std.specs.List.{list_all}
 use Rattle.hv_base.specs.Keywords.{keyword_of}
 use Rattle.hv_base.specs.declared.token.CTok.{CTok}

@@ -163,8 +163,8 @@ fn is_wide_string(alloc: Global, text: &[u8]) -> Result<bool, Memory>
 
 /// Why a string literal that has no bytes is refused.
 fn no_string(alloc: Global, text: &[u8]) -> TokenFault
-    ensures { IsFaultOf (conversion.string_from (conversion.wide conversion.is_string text.now) None)
-        result }
+    ensures { IsFaultOf
+        (conversion.string_from (conversion.wide conversion.is_string text.now) None) result }
 {
     match is_wide_string(alloc, text) {
         Ok(left_out) => TokenFault::Plain(no_constant(left_out)),

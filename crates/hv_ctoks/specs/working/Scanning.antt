@@ -1,5 +1,5 @@
 -- Floating constants as the code reads them: from the left, byte by byte.
-use Rattle.std.specs.Prelude.{ℕ, Bool, false, cond, ◌&&◌, ◌||◌, ◌==◌, nat_lt, List, [], ◌∷◌, drop}
+use Rattle.std.specs.Prelude.{ℕ, Bool, false, cond, ◌&&◌, ◌||◌, nat_lt, List, [], ◌∷◌, drop}
 use Rattle.std.specs.List.{prefix_len}
 use Rattle.hv_base.specs.Ascii.{is_digit}
 use Rattle.hv_toks.specs.Constants.{is_x}
