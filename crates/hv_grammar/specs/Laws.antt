@@ -30,8 +30,8 @@ ExpressionsHaveOneTree = (ts us : List Marked) (a b : Expr)
     → map (λ t. t.token) ts ≡ map (λ t. t.token) us
     → Reads 0 0 ts [] a → Reads 0 0 us [] b → a ≡ b
 
--- where the machine may end, over tokens with these marks and before the others, the grammar derives
--- the tree of the tokens up to the others
+-- where the machine may end, over tokens with these marks and before the others, the grammar
+-- derives the tree of the tokens up to the others
 abbrev pub MachineIsSound : Type 0
 MachineIsSound = (ts us : List Marked) (n : State) (y : Bool) (a : Expr)
     → Moves (want []) false ts n y us → finished n ≡ Some a → Reads 0 0 ts us a
