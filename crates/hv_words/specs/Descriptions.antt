@@ -1,9 +1,9 @@
 -- What `clap` is told of each command: options that take one value and are given once, and at most
--- one positional, which has to be there. What it accepts for a description is clap's own definition:
--- `--model M` and `--model=M`, `-I D`, `-ID` and `-I=D`, in any order and on either side of the
--- positional; after `--` words are positionals. It refuses a repeated option, an unknown one, a value
--- that begins with a dash and stands in a word of its own, a second positional, and requests for
--- help. `proofs/Rows` computes these.
+-- one positional, which has to be there. What it accepts for a description is clap's own
+-- definition: `--model M` and `--model=M`, `-I D`, `-ID` and `-I=D`, in any order and on either
+-- side of the positional; after `--` words are positionals. It refuses a repeated option, an
+-- unknown one, an option in the place of a value, a second positional, and requests for help.
+-- `proofs/Rows` computes these.
 use Rattle.std.specs.Prelude.{ℕ, true, List, Some, codes}
 use Rattle.clap.specs.Words.{App, Rule, new_app, new_rule, with_rule}
 
