@@ -1,17 +1,16 @@
 -- What the machine makes of the tokens of initialisers.
-use Rattle.std.proofs.Common.{◌≡◌, ℕ, suc, ◌≤◌, Bool, true, false, List, [], ◌∷◌, refl, sym, ap, ◌∙◌, arith, Option, subst}
+use Rattle.std.proofs.Common.{◌≡◌, ℕ, suc, ◌≤◌, Bool, true, false, List, [], ◌∷◌, refl, ap, arith, subst}
 use Rattle.hv_base.specs.declared.place.Place.{Place}
-use Rattle.hv_base.specs.declared.keyword.Keyword.TheVariants as keywords
 use Rattle.hv_base.specs.declared.punct.Punct.{Punct}
 use Rattle.hv_base.specs.declared.punct.Punct.TheVariants as puncts
 use Rattle.hv_ctree.specs.tree.Expressions.{Expr, Specifiers, Declarator, place_of}
 use Rattle.hv_ctree.specs.tree.Statements.{Designation, no_designation, of_index, of_member, Initializer, value, braced as in_braces, Initializers, no_initializers, then_initializer, InitDeclarators}
-use Rattle.hv_grammar.specs.Symbols.{Symbol, keyword, name, number, text, sign, outside, Marked, at, BeginsAt, at_first, left_bracket, right_bracket, left_brace, right_brace, comma_sign, equal_sign}
+use Rattle.hv_grammar.specs.Symbols.{Symbol, name, sign, outside, Marked, BeginsAt, at_first, left_bracket, right_bracket, left_brace, right_brace, comma_sign, equal_sign}
 use Rattle.hv_grammar.specs.Expressions.{Reads, r_identifier, r_constant, r_string, r_parenthesized, r_subscript, r_call_none, r_call, r_member, r_postfix, r_prefix, r_unary, r_sizeof, r_sizeof_type, r_cast, r_binary, r_conditional, r_assign, r_comma, r_higher, ReadsLastComma, r_no_comma, r_last_comma}
 use Rattle.hv_grammar.specs.Elements.{Standing, loose, ReadsDesignation, r_no_designation, r_index, r_designator, ReadsInitializer, r_value, r_braced, ReadsInitializers, r_initializer, r_initializers}
 use Rattle.hv_grammar.specs.machine.Parts.{Setting}
-use Rattle.hv_grammar.specs.machine.Frames.{Frame, Braces, Index, Designated, Declares, Declaring, Initialized, hole_of, depth, State, Want, InitializerStart, BracesStart, AfterDot, AfterDesignator, AfterInitializer}
-use Rattle.hv_grammar.specs.machine.Steps.{state, want, have, reduced, reduce, loosely, operand_at, initialized_at, item_place, comma_at, brace_at, semicolon_at, bracket_at, after, step_at, step_have}
+use Rattle.hv_grammar.specs.machine.Frames.{Frame, Braces, Index, Designated, Declares, Declaring, Initialized, hole_of, depth, State, InitializerStart, BracesStart, AfterInitializer}
+use Rattle.hv_grammar.specs.machine.Steps.{state, want, have, reduce, loosely, operand_at, initialized_at, item_place, comma_at, brace_at, semicolon_at, bracket_at, after, step_at, step_have}
 use Rattle.hv_grammar.specs.machine.Moves.{Moves, stays, takes}
 use Rattle.hv_grammar.proofs.Arriving.{joined, one, Entry, begins_operand}
 use Rattle.hv_grammar.proofs.ArrivingTypes.{steps_as, same_begin}

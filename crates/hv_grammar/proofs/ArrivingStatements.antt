@@ -1,20 +1,19 @@
 -- What the machine makes of the tokens of declarations, statements and elements.
-use Rattle.std.proofs.Common.{◌≡◌, ℕ, suc, ◌≤◌, Bool, true, false, cond, List, [], ◌∷◌, refl, sym, ap, ◌∙◌, arith, Option, Some, None, subst}
+use Rattle.std.proofs.Common.{◌≡◌, ℕ, Bool, true, false, List, [], ◌∷◌, refl, ap, arith, Option, Some, None, subst}
 use Rattle.hv_base.specs.declared.place.Place.{Place}
 use Rattle.hv_base.specs.declared.keyword.Keyword.TheVariants as keywords
-use Rattle.hv_base.specs.declared.punct.Punct.{Punct}
 use Rattle.hv_base.specs.declared.punct.Punct.TheVariants as puncts
-use Rattle.hv_ctree.specs.tree.Expressions.{Expr, Specifiers, no_specifiers, Declarator, some_declarator, declarator, Core, nothing, named, group, Suffixes, Pointers, no_pointers, place_of}
-use Rattle.hv_ctree.specs.tree.Statements.{InitDeclarator, bare, initialized, InitDeclarators, no_init_declarators, then_init_declarator, Declaration, declaration, Skeleton, hollow_empty, hollow_function, hollow_default, hollow_compound, hollow_expression, hollow_if, hollow_if_else, hollow_continue, hollow_break}
-use Rattle.hv_grammar.specs.Symbols.{Symbol, keyword, name, number, text, sign, hole, outside, Marked, at, BeginsAt, at_first, left_paren, left_brace, right_brace, comma_sign, colon, semicolon, equal_sign}
-use Rattle.hv_grammar.specs.Expressions.{with_name, ReadsDeclarator, r_declarator, ReadsDirect, r_core, r_suffix, ReadsCore, r_named, r_group, Reads}
+use Rattle.hv_ctree.specs.tree.Expressions.{Expr, Specifiers, no_specifiers, Declarator, some_declarator, declarator, Core, nothing, named, group, Suffixes, Pointers, no_pointers}
+use Rattle.hv_ctree.specs.tree.Statements.{InitDeclarator, bare, initialized, InitDeclarators, no_init_declarators, then_init_declarator, Declaration, declaration, Skeleton}
+use Rattle.hv_grammar.specs.Symbols.{Symbol, keyword, name, number, text, sign, hole, outside, Marked, BeginsAt, left_paren, left_brace, right_brace, comma_sign, colon, semicolon, equal_sign}
+use Rattle.hv_grammar.specs.Expressions.{with_name, ReadsDeclarator, r_declarator, ReadsDirect, r_core, r_suffix, r_named, r_group, Reads}
 use Rattle.hv_grammar.specs.Elements.{Standing, External, Item, Nested, loose, ReadsInitDeclarator, r_bare, r_initialized, ReadsInitDeclarators, r_init_declarator, r_init_declarators, ReadsDeclaration, r_plain_declaration, r_declaration, ReadsOption, r_none, r_some, ReadsStatement, r_case, r_default, r_block, r_expression, r_null, r_if, r_if_else, r_switch, r_while, r_do_while, r_for, r_for_declaration, r_continue, r_break, r_return, ReadsElement, r_lone, r_external, r_function_definition, r_item_declaration, r_item_statement, r_nested}
-use Rattle.hv_grammar.specs.machine.Parts.{Setting, alone, in_for, by_expression, by_declaration, Optional, for_first, for_second, for_third, of_return, Part, of_case, of_expression, of_if, of_switch, of_while, of_do, optional, Fixed, the_hole, the_colon, the_semicolon, the_opening, the_closing, the_right_brace, the_while, the_else, Spot, Start, Await, Opening, AfterIf, MayElse, ForOpening, ForStart, Before, fixed_symbol, meets, wanted, optional_closer, closer, after_optional, after_part, after_declaration}
-use Rattle.hv_grammar.specs.machine.Frames.{of_declaration, only_named, Frame, Declares, Declaring, Initialized, Statement, hole_of, depth, State, Pointing, InitializerStart, AtSpot}
-use Rattle.hv_grammar.specs.machine.Steps.{state, want, have, reduce, took, Taken, loosely, operand_at, spot, declared, declarator_place, close_at, colon_at, semicolon_at, after, optional_at, statement_at, step_at, step_have, begin, finished_element}
-use Rattle.hv_grammar.specs.machine.Moves.{Moves, stays, takes}
-use Rattle.hv_grammar.proofs.Arriving.{joined, one, Entry, begins_operand, Arrives}
-use Rattle.hv_grammar.proofs.ArrivingTypes.{steps_as, same_begin, no_brace, Spec, suits_declaration, Pointed, pointed_at, like_pointed}
+use Rattle.hv_grammar.specs.machine.Parts.{Setting, alone, in_for, by_expression, by_declaration, Optional, for_first, for_second, for_third, of_return, Part, of_case, of_expression, of_if, of_switch, of_while, of_do, optional, Fixed, the_hole, the_colon, the_semicolon, the_opening, the_closing, the_right_brace, the_while, the_else, Spot, Start, Await, MayElse, ForStart, Before, fixed_symbol, meets, wanted, optional_closer, closer, after_optional, after_part, after_declaration}
+use Rattle.hv_grammar.specs.machine.Frames.{of_declaration, only_named, Frame, Declares, Declaring, Initialized, Statement, State, Pointing, InitializerStart, AtSpot}
+use Rattle.hv_grammar.specs.machine.Steps.{state, want, reduce, loosely, operand_at, spot, declarator_place, close_at, colon_at, semicolon_at, after, optional_at, statement_at, step_at, step_have, begin, finished_element}
+use Rattle.hv_grammar.specs.machine.Moves.{Moves, takes}
+use Rattle.hv_grammar.proofs.Arriving.{joined, one, Entry, begins_operand}
+use Rattle.hv_grammar.proofs.ArrivingTypes.{steps_as, same_begin, Spec, suits_declaration, Pointed, pointed_at, like_pointed}
 use Rattle.hv_grammar.proofs.ArrivingDeclarators.{is_named}
 use Rattle.hv_grammar.proofs.ArrivingInitializers.{in_declaration, initial_start, read_initializer}
 use Rattle.hv_grammar.proofs.Completeness.{read_expression, read_specifiers, read_declarator}
@@ -235,7 +234,6 @@ pub record Whole (m : State) (ts us : List Marked) (k : Skeleton) : Type 0 where
 whole_spot : {m : State} {ts us : List Marked} (s : Standing) (k : Skeleton)
     → Moves m false ts (spot s (Await [] k)) false us → Whole m ts us k
 whole_spot s k g = record { there = spot s (Await [] k); moves = g; ends = refl }
-
 
 stating_nested : Stating (begin Nested) Nested
 stating_nested = record { reads = λ q t b. refl }

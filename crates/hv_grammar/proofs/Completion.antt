@@ -12,7 +12,7 @@ use Rattle.hv_grammar.specs.Elements.{Standing, External, Item, Nested}
 use Rattle.hv_grammar.specs.machine.Parts.{Setting, alone, in_for, FirstClause, by_expression, by_declaration, Optional, for_first, for_second, for_third, of_return, Part, of_case, of_expression, of_if, of_switch, of_while, of_do, optional, Fixed, the_hole, Spot, Start, Await, Opening, AfterIf, MayElse, ForOpening, ForStart, Before, fixed_symbol, optional_closer, closer, for_skeleton, after_optional, after_part, after_declaration}
 use Rattle.hv_grammar.specs.Symbols.{Symbol, keyword, name, sign, token_at, Role, outside, inside, Marked, at, left_paren, right_paren, equal_sign, left_bracket, right_bracket, left_brace, right_brace, colon, semicolon, level}
 use Rattle.hv_grammar.specs.Expressions.{stars, braced}
-use Rattle.hv_grammar.specs.machine.Frames.{Owner, of_type_name, of_parameter, of_member, of_declaration, Mode, only_named, only_abstract, either, Frame, Parenthesis, AfterSizeof, Subscript, Callee, Calling, Prefix, Unary, Sizeof, SizeofType, CastType, Cast, Binary, Then, Else, Assign, Comma, Specified, Body, Listing, Valued, Owned, OwnedMembers, Group, Length, Parameters, Braces, Index, Designated, Declares, Declaring, Initialized, Statement, hole, hole_of, made, depth, within, plug, At, Want, Have, Selecting, Words, AfterCompound, AfterTag, AfterEnum, AfterEnumTag, MemberStart, EnumeratorStart, AfterEnumerator, Pointing, Opened, Direct, Bracket, ParametersStart, ParameterNext, AfterEllipsis, InitializerStart, BracesStart, AfterDot, AfterDesignator, AfterInitializer, AtSpot, State}
+use Rattle.hv_grammar.specs.machine.Frames.{Owner, of_type_name, of_parameter, of_member, of_declaration, Mode, only_named, only_abstract, either, Frame, Parenthesis, AfterSizeof, Subscript, Callee, Calling, Prefix, Unary, Sizeof, SizeofType, CastType, Cast, Binary, Then, Else, Assign, Comma, Specified, Body, Listing, Valued, Owned, OwnedMembers, Group, Length, Parameters, Index, Designated, Declares, Declaring, Initialized, Statement, hole, hole_of, made, depth, within, plug, At, Want, Have, Selecting, Words, AfterCompound, AfterTag, AfterEnum, AfterEnumTag, MemberStart, EnumeratorStart, AfterEnumerator, Pointing, Opened, Direct, Bracket, ParametersStart, ParameterNext, AfterEllipsis, InitializerStart, BracesStart, AfterDot, AfterDesignator, AfterInitializer, AtSpot, State}
 use Rattle.hv_grammar.specs.machine.Steps.{state, want, have, took, quiet, Reduced, reduced, reduce, close_at, bracket_at, brace_at, colon_at, after, step_want, begins, after_parameter, after_member, after_type_name, step, after_end, finished, finished_element, spot, declared, declarator_place, item_place, initialized_at}
 use Rattle.hv_grammar.specs.machine.Moves.{Takes, taken, taken_to_count, Moves, stays, takes}
 use Rattle.hv_grammar.proofs.Arriving.{level-most, steps, passed}
@@ -247,7 +247,6 @@ middle_ends (host_group {m = m} {p = r} {q = q} {ps = qs} {st = st}) (s_more _ i
     (state st (Direct m r qs (group q (declarator p ps c ss)) no_suffixes))
     (suc (stars qs (depth st))) right_paren refl
     (e.middle m r qs (group q (declarator p ps c ss)) no_suffixes i)
-
 middle_ends (host_declaration {p = r} {xs = xs} {ds = ds} {st = st}) (s_more _ i _) b p ps c ss =
     declaration_closes i (state (Declaring r xs ds ∷ st) (Direct only_named p ps c ss)) r xs
     (then_init_declarator ds (bare p (declarator p ps c ss))) refl
@@ -273,7 +272,6 @@ words_ends (in_body {p = q} {k = k} {t = t} {ms = ms} {st = st}) s b p xs =
     (member_closes in_body s b (state (OwnedMembers p xs no_declarators ∷ Body q k t ms ∷ st)
     (Direct only_named somewhere no_pointers (named somewhere []) no_suffixes))
     p xs no_declarators (declarator somewhere no_pointers (named somewhere []) no_suffixes) refl)
-
 words_ends (in_element {s = z} {c = c}) s b p xs =
     declaration_closes (in_element {s = z} {c = c})
     (state (Declares z c ∷ []) (Words of_declaration p xs)) p xs no_init_declarators refl

@@ -1,20 +1,20 @@
 -- The languages that the machine reads, for one proof of what it answers: expressions, and elements
 -- of each standing. `None` is the language of expressions.
-use Rattle.std.proofs.Common.{◌≡◌, ℕ, Bool, true, false, List, [], ◌∷◌, refl, sym, ap, ◌∙◌, Option, Some, None, subst}
+use Rattle.std.proofs.Common.{◌≡◌, Bool, false, List, [], ◌∷◌, refl, sym, ◌∙◌, Option, Some, None, subst}
 use Rattle.hv_ctree.specs.tree.Expressions.{Expr}
 use Rattle.hv_ctree.specs.tree.Statements.{Skeleton, hollow_if}
-use Rattle.hv_grammar.specs.Symbols.{Marked, inside}
+use Rattle.hv_grammar.specs.Symbols.{Marked}
 use Rattle.hv_grammar.specs.Expressions.{Reads}
 use Rattle.hv_grammar.specs.Elements.{Standing, ReadsElement}
 use Rattle.hv_grammar.specs.Grammar.{WholeExpression, WholeElement}
-use Rattle.hv_grammar.specs.machine.Parts.{Spot, Await, MayElse}
+use Rattle.hv_grammar.specs.machine.Parts.{Await, MayElse}
 use Rattle.hv_grammar.specs.machine.Frames.{Frame, At, Have, AtSpot, State}
-use Rattle.hv_grammar.specs.machine.Steps.{Taken, want, reduce, begin, step, end_at, after_end, finished_at, finished, whole_at, element_at, finished_element}
+use Rattle.hv_grammar.specs.machine.Steps.{Taken, want, reduce, begin, step, end_at, finished_at, finished, element_at, finished_element}
 use Rattle.hv_grammar.specs.machine.Moves.{Takes, taken, taken_to_count, Moves, stays, takes}
 use Rattle.hv_grammar.proofs.Reached.{ReadAt, no_terminal}
-use Rattle.hv_grammar.proofs.ArrivingStatements.{Whole, read_element}
-use Rattle.hv_grammar.proofs.Completion.{Ends, IsEnd, expression_end, element_end, ends}
-use Rattle.hv_grammar.proofs.OneTree.{Completes, complete}
+use Rattle.hv_grammar.proofs.ArrivingStatements.{read_element}
+use Rattle.hv_grammar.proofs.Completion.{IsEnd, expression_end, element_end, ends}
+use Rattle.hv_grammar.proofs.OneTree.{complete}
 use Rattle.hv_grammar.proofs.Pending.{root_of, root_at, root, is_pending, Steady, Steadily, steady, reduced_root}
 use Rattle.hv_grammar.proofs.Soundness.{sound, moves_read, start_read}
 

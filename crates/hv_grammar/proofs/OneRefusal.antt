@@ -11,7 +11,7 @@ use Rattle.hv_grammar.specs.machine.Frames.{State}
 use Rattle.hv_grammar.specs.machine.Steps.{Taken, step}
 use Rattle.hv_grammar.specs.machine.Moves.{takes, stays}
 use Rattle.hv_grammar.specs.machine.Answers.{AnswerOf, Refused, operators_after, keeps, at_end, answers}
-use Rattle.hv_grammar.proofs.Languages.{start_of, Tree, finish, WholeOf, whole_by, sound_of}
+use Rattle.hv_grammar.proofs.Languages.{start_of, finish, WholeOf, whole_by, sound_of}
 use Rattle.hv_grammar.proofs.Verdict.{token_of, tokens_of, appended, marked_by, kept, Stand, start, based_for, one_token, quietly, stand_next, begins_within, begins_from, refused, too_deep, answer_step}
 
 ------ what begins whole begins at each token

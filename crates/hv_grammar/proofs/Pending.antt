@@ -467,7 +467,6 @@ steady_words_ended : (o : Owner) (p : Place) (xs : Specifiers) (stack : List Fra
 steady_words_ended of_type_name p xs stack q s = steady_pointing only_abstract q no_pointers _ q s
 steady_words_ended of_parameter p xs stack q s = steady_pointing either q no_pointers _ q s
 steady_words_ended of_member p xs stack q s = steady_pointing only_named q no_pointers _ q s
-
 steady_words_ended of_declaration p xs stack q (sign puncts.Semicolon) =
     steady_declared stack p xs no_init_declarators
 steady_words_ended of_declaration p xs stack q s =

@@ -14,13 +14,13 @@ use Rattle.hv_ctree.specs.tree.Expressions.{Expr, Arguments, TypeName, Specifier
 use Rattle.hv_ctree.specs.tree.Statements.{Designation, of_index, of_member, Initializer, Initializers, no_initializers, InitDeclarators, no_init_declarators, Declaration, Skeleton, hollow_if, hollow_if_else}
 use Rattle.hv_grammar.specs.Elements.{Standing, External, Item, Nested, loose, ReadsDesignation, ReadsInitializer, ReadsInitializers, ReadsInitDeclarators, ReadsDeclaration, ReadsOption, ReadsStatement, ReadsElement, r_item_statement, r_nested}
 use Rattle.hv_grammar.specs.machine.Parts.{Setting, alone, in_for, FirstClause, by_expression, by_declaration, Optional, for_first, for_second, for_third, of_return, Part, of_case, of_expression, of_if, of_switch, of_while, of_do, optional, Fixed, the_hole, the_else, the_opening, Spot, Start, Await, Opening, AfterIf, MayElse, ForOpening, ForStart, Before, fixed_symbol, wanted}
-use Rattle.hv_grammar.specs.Symbols.{Symbol, keyword, name, sign, Role, outside, operator, Marked, at, quiet, counted, BeginsAt, left_paren, right_paren, left_bracket, right_bracket, left_brace, comma_sign, colon, semicolon, equal_sign, binary_sign, level, unary_sign, assignment_sign, selector_sign, step_sign, compound_word}
+use Rattle.hv_grammar.specs.Symbols.{Symbol, keyword, name, sign, Role, operator, Marked, at, quiet, counted, BeginsAt, left_paren, right_paren, left_bracket, right_bracket, left_brace, comma_sign, colon, semicolon, equal_sign, binary_sign, level, unary_sign, assignment_sign, selector_sign, step_sign, compound_word}
 use Rattle.hv_grammar.specs.Expressions.{Words as WordKind, all_words, type_words, Naming, with_name, has_type, stars, braced, has_part, Reads, r_higher, ReadsArguments, ReadsTypeName, ReadsSpecifiers, r_specifier, r_specifiers, ReadsSpecifier, ReadsTag, ReadsMembers, ReadsDeclarator, ReadsDeclarators, ReadsEnumerators, ReadsPointers, ReadsQualifiers, ReadsDirect, ReadsParameters}
 use Rattle.hv_grammar.specs.machine.Frames.{Owner, of_type_name, of_parameter, of_member, of_declaration, Mode, only_named, only_abstract, either, Frame, Parenthesis, AfterSizeof, Subscript, Callee, Calling, Prefix, Unary, Sizeof, SizeofType, CastType, Cast, Binary, Then, Else, Assign, Comma, Specified, Body, Listing, Valued, Owned, OwnedMembers, Group, Length, Parameters, Braces, Index, Designated, Declares, Declaring, Initialized, Statement, hole, hole_of, made, depth, within, At, Want, Have, Selecting, Words, AfterCompound, AfterTag, AfterEnum, AfterEnumTag, MemberStart, EnumeratorStart, AfterEnumerator, Pointing, Opened, Direct, Bracket, ParametersStart, ParameterNext, AfterEllipsis, InitializerStart, BracesStart, AfterDot, AfterDesignator, AfterInitializer, AtSpot, State}
 use Rattle.hv_grammar.specs.machine.Steps.{Taken, begins, may_lack_name}
 use Rattle.hv_grammar.proofs.Arriving.{level-most}
 use Rattle.hv_grammar.proofs.ArrivingDeclarators.{fits_mode}
-use Rattle.hv_grammar.proofs.ArrivingInitializers.{TakesInitializer, in_item, in_declaration}
+use Rattle.hv_grammar.proofs.ArrivingInitializers.{TakesInitializer}
 
 ------ what may stand round a frame
 

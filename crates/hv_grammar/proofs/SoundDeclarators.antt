@@ -15,7 +15,7 @@ use Rattle.hv_grammar.specs.Symbols.{Symbol, keyword, name, sign, Role, outside,
 use Rattle.hv_grammar.specs.Expressions.{all_words, with_name, without_name, stars, r_sizeof_type, r_type_name, ReadsSpecifiers, ReadsMembers, r_member_first, r_members, ReadsMember, r_members_of, ReadsDeclarators, r_declarator_first, r_declarators, ReadsDeclarator, r_declarator, ReadsPointers, r_no_pointers, r_pointer, r_no_qualifiers, r_qualifiers, r_core, r_suffix, r_nothing, r_named, r_group, r_unsized, r_function, r_unprototyped, r_fixed, r_variadic, ReadsParameters, r_parameter, r_parameters, ReadsParameter, r_parameter_named, r_parameter_abstract, r_no_declarator, r_abstract, ReadsAbstract}
 use Rattle.hv_grammar.specs.machine.Frames.{of_type_name, of_parameter, Mode, only_named, only_abstract, either, Frame, SizeofType, CastType, Cast, Body, Owned, OwnedMembers, Group, Length, Parameters, Declares, Declaring, Initialized, depth, within, Direct, Bracket}
 use Rattle.hv_grammar.specs.machine.Steps.{state, Taken, plainly, operand_at, qualifier_of, may_name, may_lack_name, begins, qualified, after_parameter, after_member, after_type_name, after_group, after_init, body_at, declarator_place, ended, only_pointers, pointing_qualifier, pointing_keyword, opened_at, pointing_sign, step_pointing, opened_sign, step_opened, step_direct, bracket_keyword, step_bracket, no_parameters_at, step_parameters, ellipsis_at, step_ellipsis, first_word}
-use Rattle.hv_grammar.proofs.Reached.{in_parameters, in_body, in_element, Hosts, host_declaration, is_declaring, InitDeclaratorsFrom, no_init_yet, inits_read, from_start, b_declares, b_declaring, b_initialized, empty, Terminals, no_terminal, a_terminal, Awaits, InitialAt, host_type, host_members, host_group, none_yet, MembersFrom, no_member_yet, members_read, DeclaratorsFrom, no_declarator_yet, declarators_read, ParametersFrom, no_parameter_yet, parameters_read, DirectFrom, b_sizeof_type, b_cast_type, b_cast, b_body, b_owned, b_members, b_group, b_length, b_parameters, Stacked, more, Holds, Wants, w_plainly, MemberAt, PointingAt, OpenedAt, MiddleAt, WholeAt, BracketAt, NextAt, next_at, Leads, once, leads_by, branches, fits_most, Specs, part_suffix, part_named, part_group, MayRead, m_none, m_some, EndedAt}
+use Rattle.hv_grammar.proofs.Reached.{in_parameters, in_body, in_element, Hosts, host_declaration, is_declaring, no_init_yet, inits_read, from_start, b_declares, b_declaring, b_initialized, empty, Terminals, no_terminal, a_terminal, Awaits, InitialAt, host_type, host_members, host_group, none_yet, MembersFrom, no_member_yet, members_read, DeclaratorsFrom, no_declarator_yet, declarators_read, ParametersFrom, no_parameter_yet, parameters_read, DirectFrom, b_sizeof_type, b_cast_type, b_cast, b_body, b_owned, b_members, b_group, b_length, b_parameters, Stacked, more, Holds, Wants, w_plainly, MemberAt, PointingAt, OpenedAt, MiddleAt, WholeAt, BracketAt, NextAt, next_at, Leads, once, leads_by, branches, fits_most, Specs, part_suffix, part_named, part_group, MayRead, m_none, m_some, EndedAt}
 use Rattle.hv_grammar.proofs.ArrivingInitializers.{in_declaration}
 use Rattle.hv_grammar.proofs.ArrivingStatements.{declarator_begins}
 use Rattle.hv_grammar.proofs.SoundInitializers.{DeclaredAt, declared_read, inits_with}

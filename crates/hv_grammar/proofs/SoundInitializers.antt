@@ -1,19 +1,19 @@
 -- What the machine makes of a token after an initialiser, a declarator of a declaration or an
 -- expression of a statement, the grammar derives.
-use Rattle.std.proofs.Common.{◌≡◌, ℕ, suc, ◌≤◌, Bool, true, false, cond, List, [], ◌∷◌, refl, arith, Option, Some, None, subst}
+use Rattle.std.proofs.Common.{◌≡◌, ℕ, suc, ◌≤◌, Bool, true, false, List, [], ◌∷◌, refl, Option, Some, None, subst}
 use Rattle.hv_base.specs.declared.place.Place.{Place}
 use Rattle.hv_base.specs.declared.keyword.Keyword.TheVariants as keywords
 use Rattle.hv_base.specs.declared.punct.Punct.{Punct}
 use Rattle.hv_base.specs.declared.punct.Punct.TheVariants as puncts
 use Rattle.hv_ctree.specs.tree.Expressions.{Expr, Specifiers, Declarator, no_pointers, place_of}
-use Rattle.hv_ctree.specs.tree.Statements.{Designation, Initializer, braced as in_braces, Initializers, then_initializer, InitDeclarator, initialized, InitDeclarators, then_init_declarator, Declaration, declaration, hollow_declaration, hollow_case, hollow_expression, hollow_if, hollow_if_else, hollow_switch, hollow_while, hollow_do_while, hollow_return}
-use Rattle.hv_grammar.specs.Symbols.{Symbol, keyword, sign, hole, outside, Marked, at, right_brace, comma_sign, semicolon}
+use Rattle.hv_ctree.specs.tree.Statements.{Designation, Initializer, braced as in_braces, Initializers, then_initializer, InitDeclarator, initialized, InitDeclarators, then_init_declarator, declaration, hollow_declaration, hollow_case, hollow_expression, hollow_if, hollow_if_else, hollow_switch, hollow_while, hollow_do_while, hollow_return}
+use Rattle.hv_grammar.specs.Symbols.{Symbol, keyword, sign, hole, Marked, right_brace, comma_sign, semicolon}
 use Rattle.hv_grammar.specs.Expressions.{Reads, r_no_comma, r_no_pointers}
 use Rattle.hv_grammar.specs.Elements.{Standing, External, Item, loose, ReadsDesignation, ReadsInitializer, r_braced, ReadsInitializers, r_initializer, r_initializers, ReadsInitDeclarator, r_initialized, ReadsInitDeclarators, r_init_declarator, r_init_declarators, ReadsDeclaration, r_declaration, r_some, r_case, r_expression, r_if, r_if_else, r_switch, r_while, r_do_while, r_for, r_for_declaration, r_return, ReadsOption, ReadsElement, r_external, r_item_declaration}
 use Rattle.hv_grammar.specs.machine.Parts.{Setting, FirstClause, Part, of_case, of_expression, of_if, of_switch, of_while, of_do, Optional, for_first, for_second, for_third, of_return, optional, for_skeleton, Fixed, the_hole, the_colon, the_semicolon, the_opening, the_closing, the_right_brace, the_while, the_else, fixed_symbol, meets, wanted, optional_closer, closer, after_optional, after_part, after_declaration}
 use Rattle.hv_grammar.specs.machine.Frames.{only_named, Frame, Braces, Designated, Declares, Declaring, Initialized, Statement, depth}
 use Rattle.hv_grammar.specs.machine.Steps.{loosely, spot, declared, declarator_place, initialized_at, item_place, part_at}
-use Rattle.hv_grammar.proofs.Reached.{Site, in_element, host_declaration, is_braces, InitializersFrom, no_initializer_yet, initializers_read, InitDeclaratorsFrom, no_init_yet, inits_read, StandsStatement, stands_external, stands_in_block, as_element, FirstFrom, expression_first, declaration_first, OptionalFrom, from_for, from_first, from_second, from_return, PartFrom, from_case, from_nothing, from_if, from_switch, from_while, from_do, from_optional, DeclaresFrom, from_start, from_for_start, b_braces, b_designated, b_declares, b_declaring, b_initialized, b_statement, Stacked, empty, more, Holds, PointingAt, Terminals, no_terminal, a_terminal, BeforeOptional, SpotRead, ItemAt, InitializedAt, Leads, once, branches, lowered}
+use Rattle.hv_grammar.proofs.Reached.{in_element, host_declaration, is_braces, InitializersFrom, no_initializer_yet, initializers_read, InitDeclaratorsFrom, no_init_yet, inits_read, StandsStatement, stands_external, stands_in_block, as_element, FirstFrom, expression_first, declaration_first, OptionalFrom, from_for, from_first, from_second, from_return, PartFrom, from_case, from_nothing, from_if, from_switch, from_while, from_do, from_optional, DeclaresFrom, from_start, from_for_start, b_braces, b_designated, b_declares, b_declaring, b_initialized, b_statement, Stacked, empty, more, Holds, PointingAt, Terminals, no_terminal, a_terminal, BeforeOptional, SpotRead, ItemAt, InitializedAt, Leads, once, branches, lowered}
 use Rattle.hv_grammar.proofs.ArrivingInitializers.{item_begins}
 use Rattle.hv_grammar.proofs.ArrivingStatements.{declarator_begins}
 
@@ -25,7 +25,6 @@ before_optional k h = record { stands = k; part = λ vs t. go h vs t } where
   go : {c : Optional} {ws us : List Marked} → OptionalFrom c ws us → (vs : List Marked)
       → Terminals [] us vs → OptionalFrom c ws vs
   go h _ no_terminal = h
-
 
 declaration_ends : {s : Standing} {c : Setting} {p : Place} {xs : Specifiers}
     {ds : InitDeclarators} {ts us vs : List Marked} → DeclaresFrom s c ts us

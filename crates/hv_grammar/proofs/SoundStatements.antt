@@ -1,19 +1,19 @@
 -- What the machine makes of a token of an initialiser, of a declaration's specifiers and of an
 -- element, the grammar derives.
-use Rattle.std.proofs.Common.{◌≡◌, ℕ, suc, ◌≤◌, Bool, true, false, cond, List, [], ◌∷◌, refl, sym, arith, Option, None, subst}
+use Rattle.std.proofs.Common.{◌≡◌, ℕ, suc, ◌≤◌, Bool, true, false, cond, List, [], ◌∷◌, sym, arith, Option, None, subst}
 use Rattle.hv_base.specs.declared.place.Place.{Place}
 use Rattle.hv_base.specs.declared.keyword.Keyword.TheVariants as keywords
 use Rattle.hv_base.specs.declared.punct.Punct.TheVariants as puncts
 use Rattle.hv_ctree.specs.tree.Expressions.{Specifiers, no_specifiers, no_pointers}
-use Rattle.hv_ctree.specs.tree.Statements.{Designation, no_designation, Initializer, braced as in_braces, Initializers, no_initializers, then_initializer, no_init_declarators, hollow_empty, hollow_default, hollow_compound, hollow_expression, hollow_if_else, hollow_continue, hollow_break, Skeleton}
-use Rattle.hv_grammar.specs.Symbols.{Symbol, keyword, name, sign, Role, Marked, at, at_first, left_brace, right_brace, comma_sign, semicolon, equal_sign}
+use Rattle.hv_ctree.specs.tree.Statements.{Designation, no_designation, Initializer, braced as in_braces, then_initializer, no_init_declarators, hollow_empty, hollow_default, hollow_compound, hollow_expression, hollow_if_else, hollow_continue, hollow_break, Skeleton}
+use Rattle.hv_grammar.specs.Symbols.{Symbol, keyword, name, sign, Role, Marked, at, at_first, left_brace, right_brace, semicolon, equal_sign}
 use Rattle.hv_grammar.specs.Expressions.{r_last_comma, r_no_pointers}
 use Rattle.hv_grammar.specs.Elements.{Standing, External, Item, Nested, loose, ReadsDesignation, r_no_designation, r_index, r_designator, r_braced, r_plain_declaration, r_none, ReadsElement, r_lone, r_null, r_default, r_block, r_continue, r_break}
 use Rattle.hv_grammar.specs.machine.Parts.{Setting, alone, in_for, Optional, for_first, of_return, Part, of_case, of_expression, of_if, of_switch, of_while, of_do, optional, Fixed, the_hole, the_colon, the_semicolon, the_opening, the_right_brace, the_while, the_else, Spot, Start, Await, Opening, AfterIf, MayElse, ForOpening, ForStart, Before, fixed_symbol, meets, wanted, closer, after_optional}
-use Rattle.hv_grammar.specs.machine.Frames.{of_declaration, only_named, Frame, Braces, Index, Designated, Declares, Declaring, Statement, hole_of, depth, within, State}
-use Rattle.hv_grammar.specs.machine.Steps.{Taken, loosely, spot, want, operand_at, first_word, step_pointing, declaration_words, step_initializer, braces_ended, step_braces, step_dot, step_designator, step_initialized, initialized_at, fixed_at, optional_at, opened, statement_at, lone_at, start_at, step_spot}
+use Rattle.hv_grammar.specs.machine.Frames.{of_declaration, only_named, Frame, Braces, Index, Designated, Declares, Declaring, Statement, depth, State}
+use Rattle.hv_grammar.specs.machine.Steps.{Taken, loosely, spot, want, operand_at, first_word, step_pointing, declaration_words, step_initializer, braces_ended, step_braces, step_dot, step_designator, step_initialized, initialized_at, optional_at, statement_at, lone_at, start_at, step_spot}
 use Rattle.hv_grammar.proofs.Reached.{in_element, host_declaration, IsBraces, is_braces, is_bottom, no_initializer_yet, initializers_read, no_init_yet, StandsStatement, stands_item, stands_nested, stands_external, stands_in_block, as_element, OptionalFrom, from_for, from_return, PartFrom, from_case, from_nothing, from_if, from_switch, from_while, from_do, from_optional, from_start, from_for_start, b_braces, b_index, b_designated, b_declares, b_declaring, b_statement, Stacked, empty, more, Wants, w_plainly, WordsAt, Specs, none_yet, Terminals, no_terminal, a_terminal, Awaits, BeforePart, BeforeOptional, SpotRead, StandsDeclaration, DeclaresFrom, DesignatorFrom, index_read, member_read, InitialAt, ItemAt, DesignatorAt, InitializedAt, ReadState, Leads, once, leads_by, branches, fits_most}
-use Rattle.hv_grammar.proofs.ArrivingInitializers.{TakesInitializer, in_item, initializer_fits}
+use Rattle.hv_grammar.proofs.ArrivingInitializers.{in_item, initializer_fits}
 use Rattle.hv_grammar.proofs.SoundInitializers.{before_optional, DeclaredAt, declared_read, Initializing, initialized_read, meets_symbol, optional_ends}
 use Rattle.hv_grammar.proofs.SoundExpressions.{Wanting, pushed_read, operand_read}
 use Rattle.hv_grammar.proofs.SoundSpecifiers.{specifier_read}

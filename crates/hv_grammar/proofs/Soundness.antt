@@ -168,7 +168,6 @@ words_ended_read of_member p xs stack q s =
       first = λ z b. b;
     })
     (pointing_read only_named q no_pointers (OwnedMembers p xs no_declarators ∷ stack) q s)
-
 words_ended_read of_declaration p xs stack q s = declaration_words_read p xs stack q s
 
 words_read : (o : Owner) (p : Place) (xs : Specifiers) (stack : List Frame) (q : Place) (s : Symbol)

@@ -416,17 +416,17 @@ too_early : {kind : Option Standing} {l : Limits} {m : State} {n : ℕ} {before 
     → finish kind m ≡ None → Derives l token_of (WholeOf kind) before → ⊥
 too_early {kind} {m = m} {before = before} s e d =
     go (complete_of kind (reads_of kind d.first d.whole)) where
-  go : Finishes kind d.first [] (tree_of kind d.first d.whole) → ⊥
-  go h =
-      let there : reached (start_of kind) (tokens_of d.first) ≡ Some h.there = reached_all h.moves in
-      let here : reached (start_of kind) (tokens_of s.base.done) ≡ Some m = reached_all s.base.moves in
-      let same : reached (start_of kind) (tokens_of d.first) ≡ reached (start_of kind) (tokens_of s.base.done) =
-      ap (reached (start_of kind)) (d.tokens ∙ sym s.base.tokens) in
-      let one : m ≡ h.there = cc in
-      let both : finish kind m ≡ finish kind h.there =
-      subst (λ (n : State). finish kind m ≡ finish kind n) one refl in
-      let is = h.ends in
-      cc
+      go : Finishes kind d.first [] (tree_of kind d.first d.whole) → ⊥
+      go h =
+          let there : reached (start_of kind) (tokens_of d.first) ≡ Some h.there = reached_all h.moves in
+          let here : reached (start_of kind) (tokens_of s.base.done) ≡ Some m = reached_all s.base.moves in
+          let same : reached (start_of kind) (tokens_of d.first) ≡ reached (start_of kind) (tokens_of s.base.done) =
+          ap (reached (start_of kind)) (d.tokens ∙ sym s.base.tokens) in
+          let one : m ≡ h.there = cc in
+          let both : finish kind m ≡ finish kind h.there =
+          subst (λ (n : State). finish kind m ≡ finish kind n) one refl in
+          let is = h.ends in
+          cc
 
 ------ the answer
 

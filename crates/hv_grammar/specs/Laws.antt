@@ -36,8 +36,8 @@ ElementsHaveOneTree = (s : Standing) (ts us : List Marked) (j k : Skeleton)
     → map (λ t. t.token) ts ≡ map (λ t. t.token) us
     → ReadsElement s ts [] j → ReadsElement s us [] k → j ≡ k
 
--- where the machine may end, over tokens with these marks and before the others, the grammar derives
--- the tree of the tokens up to the others
+-- where the machine may end, over tokens with these marks and before the others, the grammar
+-- derives the tree of the tokens up to the others
 abbrev pub MachineIsSound : Type 0
 MachineIsSound = (ts us : List Marked) (n : State) (y : Bool) (a : Expr)
     → Moves (want []) false ts n y us → finished n ≡ Some a → Reads 0 0 ts us a

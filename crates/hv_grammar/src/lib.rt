@@ -5,5 +5,6 @@
 mod laws;
 
 pub use laws::{
-    answers_elements_rightly, answers_rightly, has_one_tree, keeps_tokens, reads_elements, reads_expressions,
+    answers_elements_rightly, answers_rightly, has_one_tree, keeps_tokens, reads_elements,
+    reads_expressions,
 };

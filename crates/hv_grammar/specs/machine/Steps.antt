@@ -17,10 +17,10 @@ use Rattle.hv_ctree.specs.declared.tree.words.TypeQualifier.{TypeQualifier}
 use Rattle.hv_ctree.specs.declared.tree.words.TypeQualifier.TheVariants.{Const, Restrict}
 use Rattle.hv_ctree.specs.declared.tree.words.UnaryOperator.TheVariants.{Address, Indirection, Plus, Minus, Complement, Not}
 use Rattle.hv_ctree.specs.tree.Expressions.{Expr, identifier, constant, string, parenthesized, subscript, call, member, postfix, sizeof_type, no_arguments, then_argument, type_name, Specifiers, no_specifiers, then_specifier, Specifier, storage, of_type, qualifier, inline, word, compound, enumeration, typedef_name, defined, mentioned, MayTag, no_tag, tag, no_members, then_member, members_of, no_declarators, then_declarator, listed, listed_before, Enumerators, no_enumerators, then_enumerator, plain, valued, Declarator, declarator, MayDeclarator, no_declarator, some_declarator, Core, nothing, named, group, Suffixes, no_suffixes, then_suffix, unsized, sized, function, unprototyped, parameter_types, no_parameters, then_parameter, parameter, Pointers, no_pointers, then_pointer, Qualifiers, no_qualifiers, then_qualifier, void_word, char_word, short_word, int_word, long_word, signed_word, unsigned_word, bool_word, place_of}
-use Rattle.hv_ctree.specs.tree.Statements.{Designation, no_designation, of_index, of_member, Initializer, value, braced as in_braces, no_initializers, then_initializer, InitDeclarator, bare, initialized, InitDeclarators, no_init_declarators, then_init_declarator, Skeleton, hollow_empty, hollow_function, hollow_default, hollow_compound, hollow_expression, hollow_if, hollow_if_else, hollow_continue, hollow_break}
+use Rattle.hv_ctree.specs.tree.Statements.{Designation, no_designation, of_index, of_member, Initializer, value, braced as in_braces, no_initializers, then_initializer, bare, initialized, InitDeclarators, no_init_declarators, then_init_declarator, Skeleton, hollow_empty, hollow_function, hollow_default, hollow_compound, hollow_expression, hollow_if, hollow_if_else, hollow_continue, hollow_break}
 use Rattle.hv_grammar.specs.Symbols.{Symbol, keyword, name, marked, number, text, sign, Token, Role, outside, inside, operator, right_paren, colon, semicolon}
 use Rattle.hv_grammar.specs.Elements.{Standing, External, Item, Nested}
-use Rattle.hv_grammar.specs.machine.Parts.{Setting, alone, in_for, FirstClause, Optional, for_first, of_return, Part, of_case, of_expression, of_if, of_switch, of_while, of_do, optional, Fixed, the_hole, the_colon, the_semicolon, the_opening, the_right_brace, the_while, the_else, Spot, Start, Await, Opening, AfterIf, MayElse, ForOpening, ForStart, Before, meets, closer, after_optional, after_part, after_declaration}
+use Rattle.hv_grammar.specs.machine.Parts.{alone, in_for, Optional, for_first, of_return, Part, of_case, of_expression, of_if, of_switch, of_while, of_do, optional, Fixed, the_hole, the_colon, the_semicolon, the_opening, the_right_brace, the_while, the_else, Spot, Start, Await, Opening, AfterIf, MayElse, ForOpening, ForStart, Before, meets, closer, after_optional, after_part, after_declaration}
 use Rattle.hv_grammar.specs.Expressions.{stars, braced, has_type}
 use Rattle.hv_grammar.specs.machine.Frames.{Owner, of_type_name, of_parameter, of_member, of_declaration, Mode, only_named, only_abstract, either, Frame, Parenthesis, AfterSizeof, Subscript, Callee, Calling, Prefix, Unary, Sizeof, SizeofType, CastType, Cast, Then, Else, Specified, Body, Listing, Valued, Owned, OwnedMembers, Group, Length, Parameters, Braces, Index, Designated, Declares, Declaring, Initialized, Statement, hole_of, made, weigh, depth, within, completes, plug, At, Want, Have, Selecting, Words, AfterCompound, AfterTag, AfterEnum, AfterEnumTag, MemberStart, EnumeratorStart, AfterEnumerator, Pointing, Opened, Direct, Bracket, ParametersStart, ParameterNext, AfterEllipsis, InitializerStart, BracesStart, AfterDot, AfterDesignator, AfterInitializer, AtSpot, State, Infix, by_operator, by_assignment, by_question, by_comma, by_bracket, by_parenthesis, left, reach, makes, begun, weigh_at}
 
@@ -326,10 +326,11 @@ item_place (of_member p n) x = p
 -- a sign after an initialiser, by what the initialiser stands in (6.7, 6.7.8)
 abbrev pub initialized_at : List Frame → Initializer → Punct → Option Taken
 initialized_at (Designated g ∷ Braces q xs ∷ stack) x puncts.Comma =
-    loosely (state (Braces q (then_initializer xs (item_place g x) g x) ∷ stack) BracesStart) (suc (depth stack))
-initialized_at (Designated g ∷ Braces q xs ∷ stack) x puncts.RightBrace =
-    loosely (state stack (AfterInitializer (in_braces q (then_initializer xs (item_place g x) g x) false)))
+    loosely (state (Braces q (then_initializer xs (item_place g x) g x) ∷ stack) BracesStart)
     (suc (depth stack))
+initialized_at (Designated g ∷ Braces q xs ∷ stack) x puncts.RightBrace =
+    loosely (state stack (AfterInitializer
+    (in_braces q (then_initializer xs (item_place g x) g x) false))) (suc (depth stack))
 initialized_at (Initialized y ∷ Declaring p xs ds ∷ stack) x puncts.Comma =
     loosely (state (Declaring p xs
     (then_init_declarator ds (initialized (declarator_place y) y x)) ∷ stack)
