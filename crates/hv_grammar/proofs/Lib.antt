@@ -1,7 +1,8 @@
 pub mod Spelling
 pub mod SpellingElements
 mod Rows
-mod MachineRows
+pub mod MachineRows
+mod ElementRows
 pub mod Arriving
 pub mod ArrivingTypes
 pub mod ArrivingDeclarators
@@ -18,6 +19,8 @@ pub mod SoundStatements
 pub mod Soundness
 pub mod Completion
 pub mod Pending
+pub mod ControlSteps
+pub mod ControlElements
 pub mod Languages
 pub mod Verdict
 pub mod OneRefusal

@@ -10,7 +10,8 @@ use Rattle.hv_grammar.specs.Refusal.{Limits}
 use Rattle.hv_grammar.specs.Grammar.{DerivesExpression, RefusesExpression, DerivesElement, RefusesElement}
 use Rattle.hv_grammar.specs.Tokens.{tokens_of, own_tokens}
 use Rattle.hv_grammar.specs.machine.Frames.{State}
-use Rattle.hv_grammar.specs.machine.Steps.{want, finished, begin, finished_element}
+use Rattle.hv_grammar.specs.machine.Steps.{want, step, finished, begin, finished_element}
+use Rattle.hv_grammar.specs.machine.Control.{SameSymbol, SameState, SameStep, is_some}
 use Rattle.hv_grammar.specs.machine.Moves.{Moves}
 use Rattle.hv_grammar.specs.machine.Answers.{Answer, AnswerOf, Accepted, Refused, answer, element_answer}
 
@@ -101,3 +102,16 @@ DerivedElementIsAnswered = (l : Limits) (s : Standing) (ts : List Token) (k : Sk
 abbrev pub RefusedElementIsAnswered : Type 0
 RefusedElementIsAnswered = (l : Limits) (s : Standing) (ts : List Token) (i : ℕ) (why : Why)
     → RefusesElement l s ts i why → element_answer l s ts ≡ Refused i why
+
+-- what a token does depends on the control, on what kind of token it is and on its typedef mark
+-- alone: states that differ only in what was read take the same tokens, with the same marks, and
+-- come to states that differ only in what was read
+abbrev pub ControlDecides : Type 0
+ControlDecides = (m n : State) (t u : Token) → SameState m n → SameSymbol t.symbol u.symbol
+    → SameStep (step m t) (step n u)
+
+-- and so they may end alike
+abbrev pub ControlDecidesEnds : Type 0
+ControlDecidesEnds = (m n : State) → SameState m n
+    → (is_some (finished m) ≡ is_some (finished n))
+    × (is_some (finished_element m) ≡ is_some (finished_element n))

@@ -2,5 +2,6 @@
 pub mod Parts
 pub mod Frames
 pub mod Steps
+pub mod Control
 pub mod Answers
 pub mod Moves
