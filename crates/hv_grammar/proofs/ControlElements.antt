@@ -1,26 +1,24 @@
 -- The same of declarators, initialisers and elements, and of all.
-use Rattle.std.proofs.Common.{◌≡◌, ℕ, suc, Bool, true, false, cond, List, [], ◌∷◌, refl, sym, ap, ◌∙◌, Option, Some, None}
-use Rattle.std.specs.Prelude.{nat_le}
+use Rattle.std.proofs.Common.{◌≡◌, ℕ, suc, cond, List, [], ◌∷◌, refl, ap, ◌∙◌, None}
 use Rattle.hv_base.specs.declared.place.Place.{Place}
 use Rattle.hv_base.specs.declared.keyword.Keyword.{Keyword}
 use Rattle.hv_base.specs.declared.keyword.Keyword.TheVariants as keywords
 use Rattle.hv_base.specs.declared.punct.Punct.{Punct}
 use Rattle.hv_base.specs.declared.punct.Punct.TheVariants as puncts
-use Rattle.hv_ctree.specs.declared.tree.words.Selector.{Selector}
-use Rattle.hv_ctree.specs.declared.tree.words.StorageClass.{StorageClass}
 use Rattle.hv_ctree.specs.declared.tree.words.StructOrUnion.{StructOrUnion}
 use Rattle.hv_ctree.specs.declared.tree.words.TypeQualifier.{TypeQualifier}
 use Rattle.hv_ctree.specs.declared.tree.words.TypeQualifier.TheVariants.{Const, Restrict}
-use Rattle.hv_ctree.specs.tree.Expressions.{Expr, Specifiers, no_specifiers, then_specifier, Specifier, storage, of_type, qualifier, inline, TypeSpecifier, Declarator, MayDeclarator, no_declarator, some_declarator, declarator, Core, Suffixes, Pointers, no_pointers, then_pointer, Qualifiers, then_qualifier}
-use Rattle.hv_ctree.specs.tree.Statements.{Designation, no_designation, Initializer, InitDeclarators, no_init_declarators}
-use Rattle.hv_grammar.specs.Symbols.{Symbol, keyword, name, marked, number, text, sign, Role, Token}
-use Rattle.hv_grammar.specs.Expressions.{stars, braced, has_type}
+use Rattle.hv_ctree.specs.tree.Expressions.{Expr, Specifiers, no_specifiers, Specifier, Declarator, MayDeclarator, no_declarator, some_declarator, Core, Suffixes, Pointers, Qualifiers}
+use Rattle.hv_ctree.specs.tree.Statements.{Designation, no_designation, Initializer}
+use Rattle.hv_grammar.specs.Symbols.{Symbol, keyword, Token}
+use Rattle.hv_grammar.specs.Expressions.{braced, has_type}
 use Rattle.hv_grammar.specs.Elements.{Standing, External, Item, Nested}
-use Rattle.hv_grammar.specs.machine.Parts.{Setting, alone, in_for, Optional, for_first, Part, of_expression, optional, Fixed, the_hole, the_opening, the_else, Spot, Start, Await, Opening, AfterIf, MayElse, ForOpening, ForStart, Before, meets, wanted, closer, after_optional, after_part, after_declaration}
-use Rattle.hv_grammar.specs.machine.Frames.{Statement, Owner, of_type_name, of_parameter, of_member, of_declaration, Mode, only_named, only_abstract, either, Frame, hole, hole_of, made, weigh, depth, within, completes, At, Want, Have, AtSpot, State, Infix, by_operator, by_assignment, by_question, by_comma, by_bracket, by_parenthesis, left, reach, makes, begun, weigh_at}
-use Rattle.hv_grammar.specs.machine.Steps.{state, step, end_at, finished_at, finished, element_at, finished_element, Taken, took, lately, loosely, spot, Reduced, reduced, reduce, ends, infix_of, word_of, may_stand, worded, keyword_word, specifier_at, leaf, pushed, operand_at, want_sign, want_keyword, paren_at, close_call, step_want, infix_at, infix_of_level, goes_by, specified, listed_at, declared, initialized_at, part_at, argument_at, close_at, bracket_at, brace_at, colon_at, semicolon_at, have_sign, step_have, step_selecting, after_parameter, after_member, after_type_name, after_group, after_init, body_at, ended, only_pointers, begins, qualified, qualifier_of, pointing_qualifier, pointing_keyword, opened_at, pointing_sign, step_pointing, opened_sign, step_opened, step_direct, bracket_keyword, step_bracket, no_parameters_at, step_parameters, ellipsis_at, step_ellipsis, declaration_words, words_ended, step_words, ended_word, step_compound, step_tag, body_ended, step_member, step_enum, step_enum_tag, listing_ended, step_enumerator, enumerator_named, step_enumerator_name, step_initializer, braces_ended, step_braces, step_dot, step_designator, step_initialized, optional_at, opened, statement_at, lone_at, start_at, step_spot, step_at, may_name, may_lack_name}
-use Rattle.hv_grammar.specs.machine.Control.{is_some, SameSymbol, SamePointers, SameMembers, SameEnumerators, SameInitializers, SameInits, SameSetting, SameOptional, SamePart, SameSpot, SameFrame, SameStack, SameAt, SameState, SameStep, same_keyword, same_name, same_marked, same_number, same_text, same_sign, same_hole, same_foreign, no_stars, more_stars, neither_member, both_members, neither_enumerator, both_enumerators, neither_initializer, both_initializers, neither_init, both_inits, both_alone, both_in_for, both_first, both_second, both_third, both_return, both_case, both_expression, both_if, both_switch, both_while, both_do, both_optional, both_start, both_await, both_opening, both_after_if, both_may_else, both_for_opening, both_for_start, both_before, both_parenthesis, both_after_sizeof, both_subscript, both_callee, both_calling, both_prefix, both_unary, both_sizeof, both_sizeof_type, both_cast_type, both_cast, both_binary, both_then, both_else, both_assign, both_comma, both_specified, both_body, both_listing, both_valued, both_owned, both_owned_members, both_group, both_length, both_parameters, both_braces, both_index, both_designated, both_declares, both_declaring, both_initialized, both_statement, both_empty, both_more, both_want, both_have, both_selecting, both_words, both_compound, both_tag, both_enum, both_enum_tag, both_member_start, both_enumerator_start, both_after_enumerator, both_pointing, both_opened, both_direct, both_bracket, both_parameters_start, both_parameter_next, both_after_ellipsis, both_initializer_start, both_braces_start, both_after_dot, both_after_designator, both_after_initializer, both_spot, neither_takes, both_take}
+use Rattle.hv_grammar.specs.machine.Parts.{Optional, Part, of_expression, optional, Fixed, the_hole, the_opening, the_else, Spot, meets, closer}
+use Rattle.hv_grammar.specs.machine.Frames.{Statement, Owner, of_type_name, of_parameter, of_member, of_declaration, Mode, only_named, only_abstract, either, Frame, At, Want, State}
+use Rattle.hv_grammar.specs.machine.Steps.{state, step, end_at, finished_at, finished, element_at, finished_element, loosely, spot, operand_at, after_parameter, after_member, after_type_name, after_group, after_init, body_at, ended, only_pointers, qualified, qualifier_of, pointing_qualifier, pointing_keyword, opened_at, pointing_sign, step_pointing, opened_sign, step_opened, step_direct, step_bracket, no_parameters_at, step_parameters, ellipsis_at, step_ellipsis, words_ended, step_words, ended_word, step_compound, step_tag, body_ended, step_member, step_enum, step_enum_tag, listing_ended, step_enumerator, enumerator_named, step_enumerator_name, step_initializer, braces_ended, step_braces, step_dot, step_designator, step_initialized, optional_at, statement_at, lone_at, start_at, step_spot, step_at}
+use Rattle.hv_grammar.specs.machine.Control.{is_some, SameSymbol, SamePointers, SameOptional, SamePart, SameSpot, SameStack, SameAt, SameState, SameStep, same_keyword, same_name, same_marked, same_number, same_text, same_sign, same_hole, same_foreign, no_stars, more_stars, neither_member, both_members, neither_enumerator, both_enumerators, neither_initializer, both_initializers, neither_init, both_inits, both_alone, both_in_for, both_first, both_return, both_case, both_expression, both_if, both_switch, both_while, both_do, both_optional, both_start, both_await, both_opening, both_after_if, both_may_else, both_for_opening, both_for_start, both_before, both_sizeof_type, both_cast_type, both_cast, both_specified, both_body, both_listing, both_valued, both_owned, both_owned_members, both_group, both_length, both_parameters, both_braces, both_index, both_designated, both_declares, both_declaring, both_initialized, both_statement, both_empty, both_more, both_want, both_have, both_selecting, both_words, both_compound, both_tag, both_enum, both_enum_tag, both_member_start, both_enumerator_start, both_after_enumerator, both_pointing, both_opened, both_direct, both_bracket, both_parameters_start, both_parameter_next, both_after_ellipsis, both_initializer_start, both_braces_start, both_after_dot, both_after_designator, both_after_initializer, both_spot, neither_takes, both_take}
 use Rattle.hv_grammar.proofs.ControlSteps.{stars_alike, closer_alike, depth_alike, within_alike, taken_alike, either_alike, reduce_alike, SameSpecifier, both_type, typed_alike, specifier_alike, want_keyword_alike, operand_alike, want_alike, specified_alike, declared_alike, initialized_alike, after_optional_alike, have_alike, selecting_alike}
+
 ------ declarators
 
 -- a declarator in both or in neither

@@ -1,12 +1,12 @@
 -- Rows: what the machine answers to the own tokens of some elements.
-use Rattle.std.proofs.Common.{◌≡◌, ℕ, Bool, true, false, List, [], ◌∷◌, Option, Some, None, refl}
+use Rattle.std.proofs.Common.{◌≡◌, Bool, true, false, List, [], ◌∷◌, None, refl}
 use Rattle.std.specs.Prelude.{codes}
 use Rattle.hv_base.specs.declared.keyword.Keyword.TheVariants as keywords
 use Rattle.hv_base.specs.declared.punct.Punct.TheVariants as puncts
 use Rattle.hv_base.specs.declared.why.Why.TheVariants.{Syntax, TooDeep}
 use Rattle.hv_ctree.specs.tree.Expressions.{identifier, no_specifiers, then_specifier, of_type, word, int_word, declarator, no_pointers, named, no_suffixes}
-use Rattle.hv_ctree.specs.tree.Statements.{no_designation, of_member, value, braced, no_initializers, then_initializer, bare, initialized, no_init_declarators, then_init_declarator, declaration, Skeleton, hollow_declaration, hollow_function, hollow_if, hollow_if_else, hollow_for}
-use Rattle.hv_grammar.specs.Symbols.{Symbol, keyword, name, marked, sign, hole, left_paren, right_paren, left_bracket, right_bracket, left_brace, right_brace, comma_sign, colon, semicolon, equal_sign}
+use Rattle.hv_ctree.specs.tree.Statements.{of_member, value, braced, no_initializers, then_initializer, bare, initialized, no_init_declarators, then_init_declarator, declaration, Skeleton, hollow_declaration, hollow_function, hollow_if, hollow_if_else, hollow_for}
+use Rattle.hv_grammar.specs.Symbols.{Symbol, keyword, sign, hole, left_paren, right_paren, left_bracket, right_bracket, left_brace, right_brace, comma_sign, colon, semicolon, equal_sign}
 use Rattle.hv_grammar.specs.Elements.{Standing, External, Item, Nested}
 use Rattle.hv_grammar.specs.Refusal.{source_limits}
 use Rattle.hv_grammar.specs.machine.Answers.{AnswerOf, Accepted, Refused, element_answer}

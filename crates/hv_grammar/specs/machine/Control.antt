@@ -160,11 +160,13 @@ pub data SameAt : At → At → Type 0 where
   both_selecting : {s t : Selector} {a b : Expr} → SameAt (Selecting s a) (Selecting t b)
   both_words : {o : Owner} {p q : Place} {xs ys : Specifiers} → has_type xs ≡ has_type ys
       → SameAt (Words o p xs) (Words o q ys)
-  both_compound : {p q : Place} {k l : StructOrUnion} → SameAt (AfterCompound p k) (AfterCompound q l)
+  both_compound : {p q : Place} {k l : StructOrUnion}
+      → SameAt (AfterCompound p k) (AfterCompound q l)
   both_tag : {p q x y : Place} {k l : StructOrUnion} {n o : List ℕ}
       → SameAt (AfterTag p k x n) (AfterTag q l y o)
   both_enum : {p q : Place} → SameAt (AfterEnum p) (AfterEnum q)
-  both_enum_tag : {p q x y : Place} {n o : List ℕ} → SameAt (AfterEnumTag p x n) (AfterEnumTag q y o)
+  both_enum_tag : {p q x y : Place} {n o : List ℕ}
+      → SameAt (AfterEnumTag p x n) (AfterEnumTag q y o)
   both_member_start : SameAt MemberStart MemberStart
   both_enumerator_start : SameAt EnumeratorStart EnumeratorStart
   both_after_enumerator : {p q : Place} {n o : List ℕ}
