@@ -1,5 +1,5 @@
 -- Small tokens and what they become, and string literals that are joined.
-use Rattle.std.proofs.Common.{◌≡◌, ℕ, List, [], ◌∷◌, refl}
+use Rattle.std.proofs.Common.{◌≡◌, ℕ, [], ◌∷◌, refl}
 use Rattle.std.specs.Prelude.{codes, pos, Ok, Err}
 use Rattle.hv_base.specs.declared.punct.Punct.TheVariants.{Semicolon}
 use Rattle.hv_base.specs.declared.token.CTok.TheVariants.{Char, Int, Name, Punct, Str}
