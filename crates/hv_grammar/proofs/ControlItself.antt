@@ -7,7 +7,7 @@ use Rattle.hv_grammar.specs.Symbols.{marked, token_at}
 use Rattle.hv_grammar.specs.machine.Parts.{Setting, alone, in_for, Optional, for_first, for_second, for_third, of_return, Part, of_case, of_expression, of_if, of_switch, of_while, of_do, optional, Spot, Start, Await, Opening, AfterIf, MayElse, ForOpening, ForStart, Before}
 use Rattle.hv_grammar.specs.machine.Frames.{Frame, Parenthesis, AfterSizeof, Subscript, Callee, Calling, Prefix, Unary, Sizeof, SizeofType, CastType, Cast, Binary, Then, Else, Assign, Comma, Specified, Body, Listing, Valued, Owned, OwnedMembers, Group, Length, Parameters, Braces, Index, Designated, Declares, Declaring, Initialized, Statement, At, Want, Have, Selecting, Words, AfterCompound, AfterTag, AfterEnum, AfterEnumTag, MemberStart, EnumeratorStart, AfterEnumerator, Pointing, Opened, Direct, Bracket, ParametersStart, ParameterNext, AfterEllipsis, InitializerStart, BracesStart, AfterDot, AfterDesignator, AfterInitializer, AtSpot, State}
 use Rattle.hv_grammar.specs.machine.Steps.{Taken, step}
-use Rattle.hv_grammar.specs.machine.Control.{is_some, names_type, SameSymbol, SamePointers, SameMembers, SameEnumerators, SameInitializers, SameInits, SameSetting, SameOptional, SamePart, SameSpot, SameFrame, SameStack, SameAt, SameState, SameStep, same_keyword, same_name, same_marked, same_number, same_text, same_sign, same_hole, same_foreign, no_stars, more_stars, neither_member, both_members, neither_enumerator, both_enumerators, neither_initializer, both_initializers, neither_init, both_inits, both_alone, both_in_for, both_first, both_second, both_third, both_return, both_case, both_expression, both_if, both_switch, both_while, both_do, both_optional, both_start, both_await, both_opening, both_after_if, both_may_else, both_for_opening, both_for_start, both_before, both_parenthesis, both_after_sizeof, both_subscript, both_callee, both_calling, both_prefix, both_unary, both_sizeof, both_sizeof_type, both_cast_type, both_cast, both_binary, both_then, both_else, both_assign, both_comma, both_specified, both_body, both_listing, both_valued, both_owned, both_owned_members, both_group, both_length, both_parameters, both_braces, both_index, both_designated, both_declares, both_declaring, both_initialized, both_statement, both_empty, both_more, both_want, both_have, both_selecting, both_words, both_compound, both_tag, both_enum, both_enum_tag, both_member_start, both_enumerator_start, both_after_enumerator, both_pointing, both_opened, both_direct, both_bracket, both_parameters_start, both_parameter_next, both_after_ellipsis, both_initializer_start, both_braces_start, both_after_dot, both_after_designator, both_after_initializer, both_spot, neither_takes, both_take}
+use Rattle.hv_grammar.specs.machine.Control.{is_some, names_type, SamePointers, SameMembers, SameEnumerators, SameInitializers, SameInits, SameSetting, SameOptional, SamePart, SameSpot, SameFrame, SameStack, SameAt, SameState, SameStep, same_marked, no_stars, more_stars, neither_member, both_members, neither_enumerator, both_enumerators, neither_initializer, both_initializers, neither_init, both_inits, both_alone, both_in_for, both_first, both_second, both_third, both_return, both_case, both_expression, both_if, both_switch, both_while, both_do, both_optional, both_start, both_await, both_opening, both_after_if, both_may_else, both_for_opening, both_for_start, both_before, both_parenthesis, both_after_sizeof, both_subscript, both_callee, both_calling, both_prefix, both_unary, both_sizeof, both_sizeof_type, both_cast_type, both_cast, both_binary, both_then, both_else, both_assign, both_comma, both_specified, both_body, both_listing, both_valued, both_owned, both_owned_members, both_group, both_length, both_parameters, both_braces, both_index, both_designated, both_declares, both_declaring, both_initialized, both_statement, both_empty, both_more, both_want, both_have, both_selecting, both_words, both_compound, both_tag, both_enum, both_enum_tag, both_member_start, both_enumerator_start, both_after_enumerator, both_pointing, both_opened, both_direct, both_bracket, both_parameters_start, both_parameter_next, both_after_ellipsis, both_initializer_start, both_braces_start, both_after_dot, both_after_designator, both_after_initializer, both_spot, neither_takes, both_take}
 use Rattle.hv_grammar.proofs.ControlElements.{step_alike}
 
 abbrev somewhere : Place
