@@ -21,6 +21,7 @@ pub mod Completion
 pub mod Pending
 pub mod ControlSteps
 pub mod ControlElements
+pub mod ControlItself
 pub mod Languages
 pub mod Verdict
 pub mod OneRefusal

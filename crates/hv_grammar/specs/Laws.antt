@@ -3,7 +3,8 @@ use Rattle.std.specs.Prelude.{◌≡◌, ℕ, Bool, false, List, [], map, Some}
 use Rattle.hv_base.specs.declared.why.Why.{Why}
 use Rattle.hv_ctree.specs.tree.Expressions.{Expr}
 use Rattle.hv_ctree.specs.tree.Statements.{Skeleton}
-use Rattle.hv_grammar.specs.Symbols.{Token, Marked}
+use Rattle.hv_base.specs.declared.place.Place.{Place}
+use Rattle.hv_grammar.specs.Symbols.{Token, token_at, marked, Marked}
 use Rattle.hv_grammar.specs.Expressions.{Reads}
 use Rattle.hv_grammar.specs.Elements.{Standing, ReadsElement}
 use Rattle.hv_grammar.specs.Refusal.{Limits}
@@ -11,7 +12,7 @@ use Rattle.hv_grammar.specs.Grammar.{DerivesExpression, RefusesExpression, Deriv
 use Rattle.hv_grammar.specs.Tokens.{tokens_of, own_tokens}
 use Rattle.hv_grammar.specs.machine.Frames.{State}
 use Rattle.hv_grammar.specs.machine.Steps.{want, step, finished, begin, finished_element}
-use Rattle.hv_grammar.specs.machine.Control.{SameSymbol, SameState, SameStep, is_some}
+use Rattle.hv_grammar.specs.machine.Control.{SameSymbol, SameState, SameStep, is_some, names_type}
 use Rattle.hv_grammar.specs.machine.Moves.{Moves}
 use Rattle.hv_grammar.specs.machine.Answers.{Answer, AnswerOf, Accepted, Refused, answer, element_answer}
 
@@ -115,3 +116,12 @@ abbrev pub ControlDecidesEnds : Type 0
 ControlDecidesEnds = (m n : State) → SameState m n
     → (is_some (finished m) ≡ is_some (finished n))
     × (is_some (finished_element m) ≡ is_some (finished_element n))
+
+-- a state differs from itself in nothing
+abbrev pub ControlIsItself : Type 0
+ControlIsItself = (m : State) → SameState m m
+
+-- whether a typedef name would be a type depends on the control alone, and not on the name
+abbrev pub ControlDecidesTypes : Type 0
+ControlDecidesTypes = (m n : State) → SameState m n → (p : Place) (x : List ℕ)
+    → is_some (step m (token_at p (marked x))) ≡ names_type n

@@ -1,5 +1,5 @@
 //! What is proved of the grammar, each law on a call that does nothing.
-ghost use Rattle.hv_grammar.specs.Laws.{AnswersAreRight, ControlDecides, ControlDecidesEnds, DerivedElementIsAnswered, DerivedIsAnswered, ElementAnswersAreRight, ElementsHaveOneTree, ElementsKeepTokens, ExpressionsHaveOneTree, ExpressionsKeepTokens, MachineIsComplete, MachineIsCompleteOnElements, MachineIsSound, MachineIsSoundOnElements, RefusedElementIsAnswered, RefusedIsAnswered};
+ghost use Rattle.hv_grammar.specs.Laws.{AnswersAreRight, ControlDecides, ControlDecidesEnds, ControlDecidesTypes, ControlIsItself, DerivedElementIsAnswered, DerivedIsAnswered, ElementAnswersAreRight, ElementsHaveOneTree, ElementsKeepTokens, ExpressionsHaveOneTree, ExpressionsKeepTokens, MachineIsComplete, MachineIsCompleteOnElements, MachineIsSound, MachineIsSoundOnElements, RefusedElementIsAnswered, RefusedIsAnswered};
 
 /// Does nothing. Its contract says that a tree has exactly the tokens that it was read from.
 pub fn keeps_tokens()
@@ -47,6 +47,8 @@ pub fn answers_elements_rightly()
 /// Does nothing. Its contract says that states of the machine which differ only in what was read
 /// take the same tokens, with the same marks, to such states, and may end alike.
 pub fn decides_by_control()
+    ensures itself { ControlIsItself }
     ensures steps { ControlDecides }
     ensures ends { ControlDecidesEnds }
+    ensures types { ControlDecidesTypes }
 {}

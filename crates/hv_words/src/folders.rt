@@ -5,7 +5,7 @@ ghost use Rattle.std.specs.String.{string_bytes};
 ghost use Rattle.hv_base.specs.Ascii.{is_empty};
 ghost use Rattle.hv_base.specs.declared.limits.TheConstants.{MOST_FOLDERS};
 ghost use Rattle.hv_words.specs.Folders.{folders, names_in};
-ghost use Rattle.hv_words.specs.working.Cut.{names_left, rest_len};
+ghost use Rattle.hv_words.specs.working.Cut.{names_left, bytes_left};
 
 use hv_base::{MOST_FOLDERS, Memory};
 use std::alloc::Global;
@@ -13,7 +13,7 @@ use std::alloc::Global;
 /// The first name, and what stands after its colon.
 fn next_name(text: &str) -> (&str, Option<&str>)
     ensures cut { names_in text.now ≡ result.0.now ∷ names_left result.1 }
-    ensures shorter { rest_len result.1 ≤ length text.now }
+    ensures shorter { bytes_left result.1 ≤ length text.now }
 {
     match text.split_once(':') {
         Some((name, more)) => (name, Some(more)),

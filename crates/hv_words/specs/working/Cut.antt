@@ -9,6 +9,6 @@ names_left None = []
 names_left (Some text) = names_in text.now
 
 -- how many bytes are left, and one more for the name that they begin
-abbrev pub rest_len : Option (Bor (List ℕ)) → ℕ
-rest_len None = 0
-rest_len (Some text) = length text.now + 1
+abbrev pub bytes_left : Option (Bor (List ℕ)) → ℕ
+bytes_left None = 0
+bytes_left (Some text) = length text.now + 1
