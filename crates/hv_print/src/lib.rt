@@ -1,0 +1,13 @@
+//! Trees and tokens of C as text: each token in its spelling by value, then a newline after `;`, `{`
+//! and `}`, else one space.
+#![tactic(auto)]
+
+mod declarator;
+mod expr;
+mod laws;
+mod specifier;
+mod token;
+mod word;
+
+pub use laws::keeps_tokens;
+pub use token::print_tokens;
