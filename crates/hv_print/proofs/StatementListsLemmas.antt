@@ -1,5 +1,5 @@
 -- The same of initialisers, declarators with them, and the items of blocks.
-use Rattle.std.proofs.Common.{◌≡◌, ℕ, ◌+◌, Bool, true, false, List, [], ◌∷◌, ◌++◌, refl, sym, ap, ◌∙◌, append_assoc}
+use Rattle.std.proofs.Common.{◌≡◌, ℕ, ◌+◌, Bool, true, false, List, [], ◌∷◌, ◌++◌, map, refl, sym, ap, ◌∙◌, append_assoc}
 use Rattle.std.proofs.lemmas.List.{append-nil}
 use Rattle.std.specs.declared.rc.Rc.{Rc}
 use Rattle.std.specs.declared.alloc.Global.{Global}
@@ -7,12 +7,16 @@ use Rattle.hv_ctree.specs.declared.tree.declaration.InitDeclarator.{InitDeclarat
 use Rattle.hv_ctree.specs.declared.tree.declaration.InitializerItem.{InitializerItem}
 use Rattle.hv_ctree.specs.declared.tree.declaration.InitializerItem.TheVariants.{Plain' as Next', Designated'}
 use Rattle.hv_ctree.specs.declared.tree.stmt.BlockItem.{BlockItem}
-use Rattle.hv_ctree.specs.tree.EraseStatements.{init_declarator_of, init_declarators_after, item_after, initializers_after, item_of, items_after}
+use Rattle.hv_ctree.specs.declared.tree.stmt.ExternalDeclaration.{ExternalDeclaration}
+use Rattle.hv_ctree.specs.declared.tree.stmt.Program.{Program}
+use Rattle.hv_ctree.specs.tree.EraseStatements.{init_declarator_of, init_declarators_after, item_after, initializers_after, item_of, items_after, external_of, program_of}
 use Rattle.hv_ctree.specs.tree.Statements as plain
 use Rattle.hv_grammar.specs.Symbols.{Symbol, comma_sign}
 use Rattle.hv_grammar.specs.Tokens.{init_declarator_tokens, init_declarators_tokens, initializers_tokens}
-use Rattle.hv_print.specs.ProgramTokens.{item_tokens, items_tokens}
-use Rattle.hv_print.specs.working.Printed.{comma_before}
+use Rattle.hv_print.specs.ProgramTokens.{item_tokens, items_tokens, external_tokens, externals_tokens, program_tokens}
+use Rattle.hv_print.specs.Shown.{shown, c_tokens}
+use Rattle.hv_print.specs.working.Printed.{comma_before, printed}
+use Rattle.hv_print.proofs.PrintedLemmas.{printed_shown}
 use Rattle.hv_print.proofs.ListsLemmas.{comma_next}
 
 ------ init_declarators
@@ -94,5 +98,27 @@ items_after_left ys (x ∷ xs) = items_after_left (plain.then_item ys (item_of x
 pub items_all : (xs : List (Rc BlockItem Global)) → items_tokens (items_after plain.no_items xs) ≡ items_left xs
 items_all xs = items_after_left plain.no_items xs
 
+------ external declarations
+
+-- the tokens of what is left of external declarations
+abbrev pub externals_left : List (Rc ExternalDeclaration Global) → List Symbol
+externals_left [] = []
+externals_left (x ∷ xs) = external_tokens (external_of x.value) ++ externals_left xs
+
+externals_all : (xs : List (Rc ExternalDeclaration Global))
+    → externals_tokens (map (λ (r : Rc ExternalDeclaration Global). external_of r.value) xs)
+    ≡ externals_left xs
+externals_all [] = refl
+externals_all (x ∷ xs) =
+    ap (λ ss. external_tokens (external_of x.value) ++ ss) (externals_all xs)
+
+-- the external declarations of a program, printed, are its printed form
+pub program_printed : (program : Program)
+    → printed (externals_left program.externals)
+    ≡ shown (c_tokens (program_tokens (program_of program)))
+program_printed program =
+    ap printed (sym (externals_all program.externals))
+    ∙ printed_shown (program_tokens (program_of program))
+
 -- a list as a whole is what is left of it at its beginning
-pub ruleset lists = (init_declarators_all, initializers_all, items_all)
+pub ruleset lists = (init_declarators_all, initializers_all, items_all, program_printed)

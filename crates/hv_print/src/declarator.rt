@@ -19,7 +19,7 @@ use std::alloc::Global;
 use std::rc::Rc;
 
 /// Adds the `*`s of a declarator with their qualifiers (6.7.5).
-fn put_pointers(out: &mut Text, pointers: &List<Pointer>) -> Result<(), Memory>
+pub(crate) fn put_pointers(out: &mut Text, pointers: &List<Pointer>) -> Result<(), Memory>
     ensures { OnOk result
         (out.new ≡ out.old ++ printed (pointers_tokens (pointers_of pointers.now))) }
 {

@@ -2,12 +2,16 @@
 //! and `}`, else one space.
 #![tactic(auto)]
 
+mod declaration;
 mod declarator;
 mod expr;
 mod laws;
+mod program;
 mod specifier;
+mod stmt;
 mod token;
 mod word;
 
 pub use laws::keeps_tokens;
+pub use program::print;
 pub use token::print_tokens;
