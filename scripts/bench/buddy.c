@@ -23,7 +23,14 @@ static BDD pairs(int n) {
     return all;
 }
 
-static BDD chain(int n) {
+static BDD chain_from_last(int n) {
+    BDD all = bddtrue;
+    for (int i = n - 1; i >= 0; i--)
+        all = instead(all, bdd_apply(implication(i, i + 1), all, bddop_and));
+    return all;
+}
+
+static BDD chain_from_first(int n) {
     BDD all = bddtrue;
     for (int i = 0; i < n; i++)
         all = instead(all, bdd_apply(all, implication(i, i + 1), bddop_and));
@@ -76,14 +83,16 @@ static BDD same(int n) {
 int main(int count, char **words) {
     if (count != 3) return 2;
     int n = atoi(words[2]), is_queens = strcmp(words[1], "queens") == 0;
+    int is_chain = strncmp(words[1], "chain-", 6) == 0;
     bdd_init(100000, 10000);
-    bdd_setvarnum(is_queens ? n * n : strcmp(words[1], "chain") == 0 ? n + 1 : 2 * n);
     bdd_gbc_hook(NULL);
     bdd_resize_hook(NULL);
-    BDD built = is_queens                         ? queens(n)
-                : strcmp(words[1], "chain") == 0 ? chain(n)
-                : strcmp(words[1], "same") == 0  ? same(n)
-                                                 : pairs(n);
+    bdd_setvarnum(is_queens ? n * n : is_chain ? n + 1 : 2 * n);
+    BDD built = is_queens                                      ? queens(n)
+                : strcmp(words[1], "chain-from-last") == 0  ? chain_from_last(n)
+                : strcmp(words[1], "chain-from-first") == 0 ? chain_from_first(n)
+                : strcmp(words[1], "same") == 0             ? same(n)
+                                                            : pairs(n);
     printf("%s %d: %d nodes\n", words[1], n, bdd_nodecount(built));
     return 0;
 }

@@ -40,7 +40,10 @@ unfoldable pub holds_in : List Decision → Cond → List Bool → Bool
 holds_in [] c values = c.index == 1
 holds_in (d ∷ older) c values =
     if c.index == top older
-    then (if value_of values d.variable then holds_in older d.high values else holds_in older d.low values)
+    then
+    (if value_of values d.variable
+    then holds_in older d.high values
+    else holds_in older d.low values)
     else holds_in older c values
 
 -- whether a condition holds where the variables have these values

@@ -144,7 +144,8 @@ count_satisfied-kept e [] nodes values = refl
 count_satisfied-kept {old} {new} e (c ∷ conds) nodes values =
     sum_by-cons _ c conds
     ∙ ap (λ (b : Bool). cond b 1 0 + count_satisfied new conds values) (e.meaning c nodes.0 values)
-    ∙ ap (λ (n : ℕ). cond (holds old c values) 1 0 + n) (count_satisfied-kept e conds nodes.1 values)
+    ∙ ap (λ (n : ℕ). cond (holds old c values) 1 0 + n)
+    (count_satisfied-kept e conds nodes.1 values)
     ∙ sym (sum_by-cons _ c conds)
 
 -- of two lists an assignment satisfies as many as of each
@@ -171,9 +172,9 @@ satisfied : (d : Diagram) (conds : List Cond) (values : List Bool)
 satisfied d [] values true e = absurd (omega arith)
 satisfied d [] values false e = refl
 satisfied d (c ∷ conds) values b e =
-    split (holds d c values) b (list_any (λ (x : Cond). holds d x values) conds) (count_satisfied d conds values)
-    (sym (sum_by-cons _ c conds)
-    ∙ e) (λ e. satisfied d conds values false e) (λ e. satisfied d conds values b e)
+    split (holds d c values) b (list_any (λ (x : Cond). holds d x values) conds)
+    (count_satisfied d conds values) (sym (sum_by-cons _ c conds) ∙ e)
+    (λ e. satisfied d conds values false e) (λ e. satisfied d conds values b e)
   where
     split : (h b rest : Bool) (n : ℕ) → cond h 1 0 + n ≡ cond b 1 0
         → (n ≡ 0 → rest ≡ false) → (n ≡ cond b 1 0 → rest ≡ b) → (h || rest) ≡ b
@@ -199,7 +200,8 @@ satisfied_once d values [] j e l h = absurd (omega arith)
 satisfied_once d values (c ∷ conds) zero e l h =
     let all = sum_by-cons (λ (x : Cond). cond (holds d x values) 1 0) c conds in
     let more =
-    one_more (holds d c values) (count_satisfied d (c ∷ conds) values) (count_satisfied d conds values) all h in
+    one_more (holds d c values) (count_satisfied d (c ∷ conds) values)
+    (count_satisfied d conds values) all h in
     omega arith
 satisfied_once d values (c ∷ conds) (suc j) e l h =
     let all = sum_by-cons (λ (x : Cond). cond (holds d x values) 1 0) c conds in
@@ -217,7 +219,8 @@ satisfied_twice d values (c ∷ conds) i zero e before l first second = absurd (
 satisfied_twice d values (c ∷ conds) zero (suc j) e before l first second =
     let all = sum_by-cons (λ (x : Cond). cond (holds d x values) 1 0) c conds in
     let more =
-    one_more (holds d c values) (count_satisfied d (c ∷ conds) values) (count_satisfied d conds values) all first in
+    one_more (holds d c values) (count_satisfied d (c ∷ conds) values)
+    (count_satisfied d conds values) all first in
     let later = satisfied_once d values conds j e (omega arith) second in
     omega arith
 satisfied_twice d values (c ∷ conds) (suc i) (suc j) e before l first second =
@@ -246,7 +249,8 @@ counted : (d : Diagram) (conds : List Cond) (values : List Bool)
 counted d [] values l = refl
 counted d (c ∷ conds) values l =
     let all = sum_by-cons (λ (x : Cond). cond (holds d x values) 1 0) c conds in
-    all ∙ split (holds d c values) (list_any (λ (x : Cond). holds d x values) conds) (count_satisfied d conds values) (omega arith) (λ m. counted d conds values m)
+    all ∙ split (holds d c values) (list_any (λ (x : Cond). holds d x values) conds)
+    (count_satisfied d conds values) (omega arith) (λ m. counted d conds values m)
   where
     split : (h any : Bool) (n : ℕ) → cond h 1 0 + n ≤ 1 → (n ≤ 1 → n ≡ cond any 1 0)
         → cond h 1 0 + n ≡ cond (h || any) 1 0
@@ -332,11 +336,15 @@ nowhere [] c is values = terminal (c.index == 1) is
     terminal true e = absurd (truth_is_not e)
     terminal false e = refl
 nowhere (d ∷ older) c is values =
-    split (c.index == top older) (node_in older c) (holds_in older c values) is (λ e. nowhere older c e values)
+    split (c.index == top older) (node_in older c) (holds_in older c values) is
+    (λ e. nowhere older c e values)
   where
     split : (b : Bool) (n : Node) (h : Bool) → cond b (Branch d.variable d.low d.high) n ≡ Falsity
         → (n ≡ Falsity → h ≡ false)
-        → cond b (cond (value_of values d.variable) (holds_in older d.high values) (holds_in older d.low values)) h ≡ false
+        → cond b
+        (cond (value_of values d.variable) (holds_in older d.high values)
+        (holds_in older d.low values)) h
+        ≡ false
     split true n h e rest = absurd (not_falsity d.variable d.low d.high e)
     split false n h e rest = rest e
 

@@ -113,7 +113,8 @@ fn enter(
     requires may_branch { MayBranch nodes.old halves }
     requires meaning { (v : List Bool) →
         choice (newest_first nodes.old) halves v
-        ≡ apply connective (holds_in (newest_first nodes.old) a v) (holds_in (newest_first nodes.old) b v) }
+        ≡ apply connective (holds_in (newest_first nodes.old) a v)
+        (holds_in (newest_first nodes.old) b v) }
 
     ensures grows { Grows connective nodes.old nodes.new results.old results.new a b }
     ensures answer { IfOk result (IsAnswer connective (newest_first nodes.new) a b) }

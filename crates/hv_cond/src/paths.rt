@@ -66,10 +66,12 @@ fn lower(
     requires node { c.index < top (newest_first nodes.now) }
     requires in_range { variable < nodes.now.variables }
     requires all_variables { length values.old.items ≡ nodes.now.variables }
-    requires satisfies { holds_in (newest_first nodes.now) c (by_position order.now.variables.items values.old.items) ≡ true }
+    requires satisfies { holds_in (newest_first nodes.now) c
+        (by_position order.now.variables.items values.old.items) ≡ true }
     ensures all_variables { OnOk result (length values.new.items ≡ nodes.now.variables) }
     ensures satisfies { OnOk result
-        (holds_in (newest_first nodes.now) c (by_position order.now.variables.items values.new.items) ≡ true) }
+        (holds_in (newest_first nodes.now) c
+        (by_position order.now.variables.items values.new.items) ≡ true) }
     ensures before { OnOk result (Agrees variable values.new.items values.old.items) }
     ensures least { OnOk result (value_of values.new.items variable ≡ true
         → (others : List Bool) → Agrees variable others values.old.items
@@ -106,13 +108,16 @@ fn search(
     requires node { c.index < top (newest_first nodes.now) }
     requires all_variables { length values.old ≡ nodes.now.variables }
     requires marks { c.index < length hopeless.old }
-    requires hopeless { AreHopeless order.now.variables.items (newest_first nodes.now) fixed values.old hopeless.old }
+    requires hopeless { AreHopeless order.now.variables.items (newest_first nodes.now) fixed
+        values.old hopeless.old }
 
-    ensures hopeless { AreHopeless order.now.variables.items (newest_first nodes.now) fixed values.new hopeless.new }
+    ensures hopeless { AreHopeless order.now.variables.items (newest_first nodes.now) fixed
+        values.new hopeless.new }
     ensures leaves { Leaves order.now.variables.items fixed
         (level nodes.now.variables (newest_first nodes.now) c) values.old values.new }
     ensures found { result ≡ true
-        → holds_in (newest_first nodes.now) c (by_position order.now.variables.items values.new) ≡ true }
+        → holds_in (newest_first nodes.now) c
+        (by_position order.now.variables.items values.new) ≡ true }
     ensures none { result ≡ false
         → IsHopeless order.now.variables.items (newest_first nodes.now) fixed values.old c }
 {
@@ -149,17 +154,22 @@ fn search_half(
     requires all_variables { length values.old ≡ nodes.now.variables }
     requires low_mark { decision.low.index < length hopeless.old }
     requires high_mark { decision.high.index < length hopeless.old }
-    requires hopeless { AreHopeless order.now.variables.items (newest_first nodes.now) fixed values.old hopeless.old }
+    requires hopeless { AreHopeless order.now.variables.items (newest_first nodes.now) fixed
+        values.old hopeless.old }
 
-    ensures hopeless { AreHopeless order.now.variables.items (newest_first nodes.now) fixed values.new hopeless.new }
-    ensures leaves { Leaves order.now.variables.items fixed decision.variable values.old values.new }
+    ensures hopeless { AreHopeless order.now.variables.items (newest_first nodes.now) fixed
+        values.new hopeless.new }
+    ensures leaves { Leaves order.now.variables.items fixed decision.variable
+        values.old values.new }
     ensures value { result ≡ true
         → value_of values.new (slice_index order.now.variables.items decision.variable) ≡ value }
     ensures found { result ≡ true
-        → holds_in (newest_first nodes.now) (half decision value) (by_position order.now.variables.items values.new) ≡ true }
+        → holds_in (newest_first nodes.now) (half decision value)
+        (by_position order.now.variables.items values.new) ≡ true }
     ensures none { result ≡ false → (others : List Bool) → Agrees fixed others values.old
         → value_of others (slice_index order.now.variables.items decision.variable) ≡ value
-        → holds_in (newest_first nodes.now) (half decision value) (by_position order.now.variables.items others) ≡ false }
+        → holds_in (newest_first nodes.now) (half decision value)
+        (by_position order.now.variables.items others) ≡ false }
 {
     let variable = order.variable(decision.variable);
     if fixed <= variable {

@@ -29,8 +29,8 @@ impl Results {
         }
     }
 
-    /// Forgets the answers, if there are more than some: what is kept from one call to the next goes
-    /// with the number of nodes.
+    /// Forgets the answers, if there are more than some: what is kept from one call to the next
+    /// goes with the number of nodes.
     pub(crate) fn trim(&mut self, most: usize)
         ensures { (x y c : Cond) → known self.new x y ≡ Some c → known self.old x y ≡ Some c }
     {

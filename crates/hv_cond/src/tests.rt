@@ -99,8 +99,8 @@ fn truth_tables_where_the_middle_variable_is_first(rt: HostRuntime) -> Result<()
     assert_tables(&rt, store)
 }
 
-/// Variable 0 without variable 3, or variable 1 with variable 3. By the numbers, its first assignment
-/// has variables 1 and 3 true; with variable 3 tested first, only variable 0.
+/// Variable 0 without variable 3, or variable 1 with variable 3. By the numbers, its first
+/// assignment has variables 1 and 3 true; with variable 3 tested first, only variable 0.
 fn either_with_3(store: &mut Store) -> Result<Cond, AllocError>
     requires { store.old.variables ≡ 4 }
     ensures keeps { Keeps store.old store.new }

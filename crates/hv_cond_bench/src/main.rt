@@ -49,7 +49,8 @@ fn status_of(printed: io::Result<()>, status: u8) -> ExitCode {
     ExitCode::from(if printed.is_ok() { status } else { FAILED })
 }
 
-/// The words behind the program's name. Words that are no UTF-8 name no work, so they count as none.
+/// The words after the program's name. Words that are no UTF-8 name no work, so they count as
+/// none.
 fn words<R: Env + AllocGlobal>(rt: &R) -> Result<Vec<String>, AllocError> {
     match env::args(rt) {
         Ok(words) => words.skip(1).collect(rt.alloc()),

@@ -32,8 +32,25 @@ fn either(store: &mut Store, i: u32, j: u32) -> Result<Cond, AllocError>
     store.or(one, other)
 }
 
-/// Each of `n` variables implies the next.
-pub fn chain(store: &mut Store, n: u32) -> Result<Cond, AllocError>
+/// Each of `n` variables implies the next, joined from the last link on: each step makes branches
+/// above those of the step before, and leaves these as they are.
+pub fn chain_from_last(store: &mut Store, n: u32) -> Result<Cond, AllocError>
+    requires room { n < store.old.variables }
+    ensures keeps { Keeps store.old store.new }
+    ensures node { IfOk result (IsNode store.new) }
+{
+    let mut all = store.truth();
+    for i in 0..n {
+        let first = n - 1 - i;
+        let link = implication(store, first, first + 1)?;
+        all = store.and(link, all)?;
+    }
+    Ok(all)
+}
+
+/// Each of `n` variables implies the next, joined from the first link on: each step goes through
+/// the whole diagram so far, and makes it anew.
+pub fn chain_from_first(store: &mut Store, n: u32) -> Result<Cond, AllocError>
     requires room { n < store.old.variables }
     ensures keeps { Keeps store.old store.new }
     ensures node { IfOk result (IsNode store.new) }

@@ -1,5 +1,6 @@
 //! The problem of the queens: on a board of `n` rows of `n` squares each row has a queen, and no
-//! queen attacks another. A variable for each square, row by row, says whether a queen stands there.
+//! queen attacks another. A variable for each square, row by row, says whether a queen stands
+//! there.
 ghost use Rattle.std.specs.Prelude.{◌*◌, ◌<◌, ◌≤◌, IfOk};
 ghost use Rattle.hv_cond.specs.Diagram.{IsNode, Keeps};
 

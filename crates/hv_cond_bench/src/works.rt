@@ -5,7 +5,7 @@ ghost use Rattle.hv_cond_bench.specs.Works.{limit};
 
 use crate::branches::count_branches;
 use crate::deep::deep;
-use crate::pairs_and_chains::{chain, pairs};
+use crate::pairs_and_chains::{chain_from_first, chain_from_last, pairs};
 use crate::queens::queens;
 use hv_cond::{Cond, Store};
 use std::alloc::{AllocError, Global};
@@ -20,8 +20,10 @@ pub enum Work {
     Pairs,
     /// The placings of queens on a board of which none attacks another.
     Queens,
-    /// A conjunction of implications from each variable to the next.
-    Chain,
+    /// A conjunction of implications from each variable to the next, joined from the last one on.
+    ChainFromLast,
+    /// The same, joined from the first one on.
+    ChainFromFirst,
     /// A conjunction of two conditions of `Pairs`, made again and again.
     Same,
     /// The complement of the conjunction of all variables, by calls that go down all of them.
@@ -34,7 +36,8 @@ impl Work {
         match name {
             "pairs" => Some(Work::Pairs),
             "queens" => Some(Work::Queens),
-            "chain" => Some(Work::Chain),
+            "chain-from-last" => Some(Work::ChainFromLast),
+            "chain-from-first" => Some(Work::ChainFromFirst),
             "same" => Some(Work::Same),
             "deep" => Some(Work::Deep),
             _ => None,
@@ -46,7 +49,8 @@ impl Work {
         match self {
             Work::Pairs => "pairs",
             Work::Queens => "queens",
-            Work::Chain => "chain",
+            Work::ChainFromLast => "chain-from-last",
+            Work::ChainFromFirst => "chain-from-first",
             Work::Same => "same",
             Work::Deep => "deep",
         }
@@ -59,7 +63,8 @@ impl Work {
         match self {
             Work::Pairs | Work::Same => 1000,
             Work::Queens => 8,
-            Work::Chain => 4000,
+            Work::ChainFromLast => 200_000,
+            Work::ChainFromFirst => 4000,
             Work::Deep => 4096,
         }
     }
@@ -88,9 +93,14 @@ pub fn run(alloc: Global, work: Work, n: u32) -> Result<usize, AllocError>
             let built = queens(&mut store, n)?;
             count_branches(alloc, &store, built)
         }
-        Work::Chain => {
+        Work::ChainFromLast => {
             let mut store = Store::new(alloc, n + 1)?;
-            let built = chain(&mut store, n)?;
+            let built = chain_from_last(&mut store, n)?;
+            count_branches(alloc, &store, built)
+        }
+        Work::ChainFromFirst => {
+            let mut store = Store::new(alloc, n + 1)?;
+            let built = chain_from_first(&mut store, n)?;
             count_branches(alloc, &store, built)
         }
         Work::Deep => {

@@ -1,3 +1,4 @@
+-- The types of C as definitions see them, and what the standard says of them.
 pub mod Plain
 pub mod Erasure
 pub mod Kinds

@@ -1,3 +1,4 @@
+//! The table of the structure and union types of a program.
 ghost use Rattle.hv_ctree.specs.types.Settled.{IsSettled};
 
 use crate::types::CompoundType;

@@ -1,7 +1,7 @@
+//! The types of C.
 use hv_base::{List, Text};
 use std::rc::Rc;
 
-// SAME: integer kinds
 /// An integer type of the profile other than an enumeration (ISO/IEC 9899:1999, 6.2.5).
 // SAME: integer kinds
 #[derive(Clone, Copy, Debug, PartialEq, Eq)]

@@ -1,3 +1,4 @@
+//! Whether two types are compatible.
 ghost use Rattle.std.specs.Prelude.{◌≡◌, IsTrue};
 ghost use Rattle.hv_ctree.specs.types.Erasure.{type_of, shape_of, parameters_of};
 ghost use Rattle.hv_ctree.specs.types.Kinds as kinds;

@@ -1,3 +1,4 @@
+//! The table of structures and unions: how it begins, and how it grows.
 ghost use Rattle.std.specs.Prelude.{◌≡◌, ◌++◌, ◌∷◌, [], Some, length, map, IfOk, IfNone, OnOk, OnErr, OnSome};
 ghost use Rattle.hv_ctree.specs.types.Erasure.{member_of};
 ghost use Rattle.hv_ctree.specs.types.Table.{compounds_of};
@@ -35,8 +36,9 @@ pub fn declare_compound(types: &mut Types, is_union: bool, tag: Option<Text>) ->
 }
 
 /// Gives an incomplete structure or union its members, and computes its layout once for all
-/// (ISO/IEC 9899:1999, 6.7.2.1). `None` where nothing incomplete has this number, there is no member, one of
-/// them has no layout, or all together are larger than the limit on objects; then nothing changes.
+/// (ISO/IEC 9899:1999, 6.7.2.1). `None` where nothing incomplete has this number, there is no
+/// member, one of them has no layout, or all together are larger than the limit on objects; then
+/// nothing changes.
 pub fn complete_compound(types: &mut Types, number: u64, members: List<Member>) -> Option<Layout>
     ensures value { result ≡ layout_with (compounds_of types.old) number (map member_of members) }
     ensures some { OnSome result

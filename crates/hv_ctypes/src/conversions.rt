@@ -1,3 +1,4 @@
+//! Values converted to integer types.
 ghost use Rattle.std.specs.Prelude.{◌≡◌, ◌+◌, ◌-◌, ◌/◌, ◌<◌, ◌≤◌, ◌^◌, IsTrue, IsSome, IfSome, if◌then◌else◌, nat_lt};
 ghost use Rattle.hv_ctree.specs.types.Erasure.{type_of};
 ghost use Rattle.hv_ctree.specs.types.Conversions.{converted, kind_in, has};
@@ -61,7 +62,8 @@ fn sign_extended(remainder: u64, count: u64) -> u64
 pub fn convert(value: u64, to: &CType) -> u64
     requires { IsSome (kind_in (type_of to.now)) }
     ensures value { IfSome (kind_in (type_of to.now)) (λ kind. result ≡ converted kind value) }
-    ensures keeps { IfSome (kind_in (type_of to.now)) (λ kind. IsTrue (has kind value) → result ≡ value) }
+    ensures keeps { IfSome (kind_in (type_of to.now)) (λ kind.
+        IsTrue (has kind value) → result ≡ value) }
     ensures within { IfSome (kind_in (type_of to.now)) (λ kind. IsTrue (has kind result)) }
 {
     match integer_kind(to) {

@@ -1,3 +1,4 @@
+//! Types made of other types, up to a largest size.
 ghost use Rattle.std.specs.Prelude.{◌≡◌, ◌≤◌, false, min, IfOk};
 ghost use Rattle.hv_ctree.specs.types.Erasure.{type_of, shape_of, parameters_of};
 ghost use Rattle.hv_ctree.specs.types.Plain.{plain, pointer, array, function};

@@ -1,3 +1,4 @@
+//! Sizes and alignments.
 ghost use Rattle.std.specs.Prelude.{◌≡◌, ◌%◌, ◌≤◌, IsTrue, IfSome, IsSomeAnd};
 ghost use Rattle.hv_base.specs.declared.limits.TheConstants.{MOST_OBJECT_BYTES};
 ghost use Rattle.hv_ctree.specs.types.Erasure.{type_of};
@@ -15,7 +16,8 @@ use hv_ctree::{CType, IntKind, Layout, Shape, Types};
 /// incomplete, a function, or larger than the limit on objects. It takes a step for each dimension
 /// of an array, and one more: the layout of a structure or union is looked up.
 pub fn layout(types: &Types, t: &CType) -> Option<Layout>
-    ensures value { result ≡ within_limit (layouts.layout (compounds_of types.now) (type_of t.now)) }
+    ensures value { result
+        ≡ within_limit (layouts.layout (compounds_of types.now) (type_of t.now)) }
     ensures whole { IfSome result (λ l. l.size % l.align ≡ 0) }
     ensures aligned { IfSome result (λ l. IsTrue (is_alignment l.align)) }
 {
@@ -39,7 +41,8 @@ pub(crate) fn kept_layout(types: &Types, number: u64) -> Option<Layout>
 pub fn size_of(types: &Types, t: &CType) -> u64
     requires { IsSomeAnd (layouts.layout (compounds_of types.now) (type_of t.now))
         (λ l. l.size ≤ MOST_OBJECT_BYTES) }
-    ensures value { IfSome (layouts.layout (compounds_of types.now) (type_of t.now)) (λ l. result ≡ l.size) }
+    ensures value { IfSome (layouts.layout (compounds_of types.now) (type_of t.now))
+        (λ l. result ≡ l.size) }
 {
     match layout(types, t) {
         Some(layout) => layout.size,
@@ -51,7 +54,8 @@ pub fn size_of(types: &Types, t: &CType) -> u64
 pub fn align_of(types: &Types, t: &CType) -> u64
     requires { IsSomeAnd (layouts.layout (compounds_of types.now) (type_of t.now))
         (λ l. l.size ≤ MOST_OBJECT_BYTES) }
-    ensures value { IfSome (layouts.layout (compounds_of types.now) (type_of t.now)) (λ l. result ≡ l.align) }
+    ensures value { IfSome (layouts.layout (compounds_of types.now) (type_of t.now))
+        (λ l. result ≡ l.align) }
 {
     match layout(types, t) {
         Some(layout) => layout.align,

@@ -1,3 +1,4 @@
+//! Members one after another, and the layout of them all.
 ghost use Rattle.std.specs.Prelude.{◌≡◌, ◌+◌, ◌%◌, ◌<◌, ◌≤◌, IsTrue, IfSome, max, map, Some};
 ghost use Rattle.hv_base.specs.declared.limits.TheConstants.{MOST_OBJECT_BYTES};
 ghost use Rattle.hv_ctree.specs.types.Erasure.{member_of};

@@ -1,3 +1,4 @@
+//! The composite of two types, and copies of types.
 ghost use Rattle.std.specs.Prelude.{◌≡◌, ◌++◌, ◌∷◌, [], false, IsTrue, IfOk, OnOk};
 ghost use Rattle.hv_ctree.specs.types.Erasure.{type_of, shape_of, parameters_of};
 ghost use Rattle.hv_ctree.specs.types.Compatible as compatibility;
@@ -15,8 +16,10 @@ use std::rc::Rc;
 pub fn composite(alloc: Global, _types: &Types, a: &CType, b: &CType) -> Result<CType, Memory>
     requires { IsTrue (compatibility.compatible (type_of a.now) (type_of b.now)) }
     ensures value { IfOk result (λ t. type_of t ≡ types.composite (type_of a.now) (type_of b.now)) }
-    ensures with_first { IfOk result (λ t. IsTrue (compatibility.compatible (type_of t) (type_of a.now))) }
-    ensures with_second { IfOk result (λ t. IsTrue (compatibility.compatible (type_of t) (type_of b.now))) }
+    ensures with_first { IfOk result
+        (λ t. IsTrue (compatibility.compatible (type_of t) (type_of a.now))) }
+    ensures with_second { IfOk result
+        (λ t. IsTrue (compatibility.compatible (type_of t) (type_of b.now))) }
     ensures keeps_first { IfOk result (λ t. IsTrue (keeps (type_of t) (type_of a.now))) }
     ensures keeps_second { IfOk result (λ t. IsTrue (keeps (type_of t) (type_of b.now))) }
     ensures as_large { IfOk result (λ t. written (type_of t) ≡ written (type_of a.now)) }
@@ -38,7 +41,8 @@ fn merged(alloc: Global, a: &CType, b: &CType) -> Result<CType, Memory>
 
 #[cycle(merged)]
 fn merged_shape(alloc: Global, a: &Shape, b: &Shape) -> Result<Shape, Memory>
-    ensures { IfOk result (λ s. shape_of s ≡ types.composite_shape (shape_of a.now) (shape_of b.now)) }
+    ensures { IfOk result
+        (λ s. shape_of s ≡ types.composite_shape (shape_of a.now) (shape_of b.now)) }
 {
     match a {
         Shape::Pointer(to) => match b {

@@ -1,3 +1,4 @@
+//! The offsets of members.
 ghost use Rattle.std.specs.Prelude.{◌≡◌, ◌≤◌, IsTrue, IsSome, IfOk, IfSome, Some, map};
 ghost use Rattle.std.specs.Option.{option_map};
 ghost use Rattle.hv_base.specs.declared.limits.TheConstants.{MOST_OBJECT_BYTES};

@@ -1,3 +1,4 @@
+//! Types as the tests write them.
 mod conversions;
 mod layouts;
 mod shared;

@@ -1,3 +1,4 @@
+//! Trees of files as the tests write them, and what gathering answers, shown as one line.
 use super::*;
 use hv_base::{Held, List, MOST_NAMES, Memory, Text};
 use hv_outside::{MemFiles, SafeFiles};

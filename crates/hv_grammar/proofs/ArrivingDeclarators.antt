@@ -1,16 +1,16 @@
 -- The same of what stands at the middle of declarators and after it.
-use Rattle.std.proofs.Common.{◌≡◌, ℕ, suc, Bool, true, false, List, ◌∷◌, refl, ap, ◌∙◌}
+use Rattle.std.proofs.Common.{◌≡◌, ℕ, suc, Bool, true, false, List, ◌∷◌, refl, ap, ◌∙◌, Option, None}
 use Rattle.hv_base.specs.declared.place.Place.{Place}
 use Rattle.hv_base.specs.declared.keyword.Keyword.TheVariants as keywords
 use Rattle.hv_base.specs.declared.punct.Punct.{Punct}
 use Rattle.hv_base.specs.declared.punct.Punct.TheVariants as puncts
 use Rattle.hv_ctree.specs.declared.tree.words.TypeQualifier.{TypeQualifier}
 use Rattle.hv_ctree.specs.declared.tree.words.TypeQualifier.TheVariants.{Const, Restrict}
-use Rattle.hv_ctree.specs.tree.Expressions.{no_specifiers, declarator, MayDeclarator, some_declarator, Core, nothing, named, Suffixes, no_suffixes, then_suffix, unprototyped, no_parameters, Pointers, no_pointers, then_pointer, Qualifiers, no_qualifiers, then_qualifier}
-use Rattle.hv_grammar.specs.Symbols.{Symbol, keyword, name, number, text, sign, Role, Marked, at, BeginsAt, at_first, left_paren, right_paren, left_bracket, qualifier_word}
+use Rattle.hv_ctree.specs.tree.Expressions.{no_specifiers, declarator, MayDeclarator, no_declarator, some_declarator, Core, nothing, named, group, Suffixes, no_suffixes, then_suffix, unprototyped, no_parameters, Pointers, no_pointers, then_pointer, Qualifiers, no_qualifiers, then_qualifier}
+use Rattle.hv_grammar.specs.Symbols.{Symbol, keyword, name, number, text, sign, Role, Marked, at, BeginsAt, at_first, left_paren, right_paren, left_bracket, left_brace, qualifier_word}
 use Rattle.hv_grammar.specs.Expressions.{Naming, with_name, without_name, stars, has_part, ReadsQualifiers, r_no_qualifiers, r_qualifiers}
 use Rattle.hv_grammar.specs.machine.Frames.{of_parameter, Mode, only_named, only_abstract, either, Frame, Group, Length, Parameters, depth, within, State, Pointing, Opened, Direct, Bracket, ParametersStart}
-use Rattle.hv_grammar.specs.machine.Steps.{state, plainly, operand_at, step_pointing, ended, begins, may_name, may_lack_name, only_pointers, step_at}
+use Rattle.hv_grammar.specs.machine.Steps.{state, plainly, operand_at, step_pointing, ended, body_at, Taken, begins, may_name, may_lack_name, only_pointers, step_at}
 use Rattle.hv_grammar.specs.machine.Moves.{Takes, Moves, stays}
 use Rattle.hv_grammar.proofs.Arriving.{joined, one, Entry, begins_operand}
 use Rattle.hv_grammar.proofs.ArrivingTypes.{steps_as, Spec, begins_declarator, ends_declarator, Pointed, Bare, has_pointer, pointed_at}
@@ -226,6 +226,17 @@ grouping either {y = y} {p = p} {ps = ps} {st = st} q h f same deep = record {
   pointed = opened_pointed either p ps q st;
 }
 
+-- whether a declarator has a name
+abbrev pub is_named : MayDeclarator → Bool
+is_named (some_declarator (declarator p ps (named q n) ss)) = true
+is_named (some_declarator (declarator p ps (group q x) ss)) = true
+is_named _ = false
+
+-- what a `{` does after the declarator
+abbrev pub brace_of : List Frame → MayDeclarator → Place → Option Taken
+brace_of st no_declarator q = None
+brace_of st (some_declarator x) q = body_at st x q
+
 -- the machine has read a declarator, or nothing where none must be: a sign that ends it ends it with this tree
 pub record Declared (m : State) (ts us : List Marked) (x : MayDeclarator) (st : List Frame) : Type 0
   where
@@ -233,6 +244,8 @@ pub record Declared (m : State) (ts us : List Marked) (x : MayDeclarator) (st : 
     pub moves : Moves m false ts there false us
     pub ends : (q : Place) (s : Punct) → ends_declarator s ≡ true
         → step_at there.stack there.at q (sign s) ≡ ended st x s
+    pub body : (q : Place) → is_named x ≡ true
+        → step_at there.stack there.at q left_brace ≡ brace_of st x q
 
 direct_ends : (md : Mode) (p : Place) (ps : Pointers) (c : Core) (ss : Suffixes) (st : List Frame)
     (q : Place) (s : Punct) → ends_declarator s ≡ true
@@ -241,6 +254,7 @@ direct_ends : (md : Mode) (p : Place) (ps : Pointers) (c : Core) (ss : Suffixes)
 direct_ends md p ps c ss st q puncts.RightParenthesis e = refl
 direct_ends md p ps c ss st q puncts.Comma e = refl
 direct_ends md p ps c ss st q puncts.Semicolon e = refl
+direct_ends md p ps c ss st q puncts.Equal e = refl
 direct_ends md p ps c ss st q _ e = cc
 
 bare_ends : {n : State} {md : Mode} {y : Place} (p : Place) (ps : Pointers) {st : List Frame}
@@ -258,7 +272,18 @@ pub direct_declared : {m : State} {ts us : List Marked} {md : Mode} {p : Place} 
     → has_part ps c ss ≡ true → DirectAt m ts us md p ps c ss st
     → Declared m ts us (some_declarator (declarator p ps c ss)) st
 direct_declared {us = us} {md = md} {p = p} {ps = ps} {c = c} {ss = ss} {st = st} i h =
-    record { there = h.there; moves = h.moves; ends = ends_of i h.like } where
+    record {
+      there = h.there;
+      moves = h.moves;
+      ends = ends_of i h.like;
+      body = body_of h.like;
+    } where
+      body_of : {n : State} {c : Core} {ss : Suffixes} → DirectLike n md p ps c ss st us → (q : Place)
+          → is_named (some_declarator (declarator p ps c ss)) ≡ true
+          → step_at n.stack n.at q left_brace ≡ body_at st (declarator p ps c ss) q
+      body_of (is_bare h g l f a) q e = cc
+      body_of is_middle q e = refl
+
       ends_of : {n : State} {c : Core} {ss : Suffixes} → has_part ps c ss ≡ true
           → DirectLike n md p ps c ss st us → (q : Place) (s : Punct) → ends_declarator s ≡ true
           → step_at n.stack n.at q (sign s) ≡ ended st (some_declarator (declarator p ps c ss)) s

@@ -11,9 +11,10 @@ use Rattle.hv_ctree.specs.declared.tree.words.StructOrUnion.TheVariants.{Struct,
 use Rattle.hv_ctree.specs.declared.tree.words.TypeQualifier.{TypeQualifier}
 use Rattle.hv_ctree.specs.declared.tree.words.TypeQualifier.TheVariants.{Const, Restrict}
 use Rattle.hv_ctree.specs.tree.Expressions.{Specifiers, then_specifier, Specifier, storage, of_type, qualifier, inline, word, compound, enumeration, typedef_name, mentioned, no_declarators, listed_before, declarator, some_declarator, nothing, no_suffixes, Pointers, no_pointers, then_pointer, Qualifiers, no_qualifiers, then_qualifier, TypeWord, void_word, char_word, short_word, int_word, long_word, signed_word, unsigned_word, bool_word}
+use Rattle.hv_ctree.specs.tree.Statements.{no_init_declarators}
 use Rattle.hv_grammar.specs.Symbols.{Symbol, keyword, name, marked, sign, Role, Marked, at, BeginsAt, at_first, storage_word, qualifier_word, compound_word, type_word}
 use Rattle.hv_grammar.specs.Expressions.{Words as WordKind, all_words, type_words, has_type, stars, ReadsQualifiers, r_no_qualifiers, r_qualifiers, ReadsPointers, r_no_pointers, r_pointer}
-use Rattle.hv_grammar.specs.machine.Frames.{Owner, of_type_name, of_parameter, of_member, Mode, only_named, only_abstract, either, Frame, Specified, Owned, OwnedMembers, depth, within, State, Words, AfterCompound, AfterTag, AfterEnum, AfterEnumTag, Pointing}
+use Rattle.hv_grammar.specs.machine.Frames.{Owner, of_type_name, of_parameter, of_member, of_declaration, Mode, only_named, only_abstract, either, Frame, Specified, Owned, OwnedMembers, Declaring, depth, within, State, Words, AfterCompound, AfterTag, AfterEnum, AfterEnumTag, Pointing}
 use Rattle.hv_grammar.specs.machine.Steps.{state, Taken, took, plainly, specifier_at, words_ended, step_words, step_pointing, ended, begins, may_lack_name, only_pointers, step_at}
 use Rattle.hv_grammar.specs.machine.Moves.{Takes, taken, Moves, stays, takes}
 use Rattle.hv_grammar.proofs.Arriving.{joined, one}
@@ -66,6 +67,7 @@ pub record Worded (m : State) (ts us : List Marked) (o : Owner) (p : Place) (xs 
 
 pub data Suits : WordKind → Owner → Type 0 where
   suits_all : Suits all_words of_parameter
+  suits_declaration : Suits all_words of_declaration
   suits_type_name : Suits type_words of_type_name
   suits_member : Suits type_words of_member
 
@@ -95,15 +97,21 @@ storage_no_brace storages.Static = refl
 storage_no_brace storages.Auto = refl
 storage_no_brace storages.Register = refl
 
-storage_stands : (p : Place) (xs : Specifiers) (st : List Frame) (q : Place) (c : StorageClass)
+storage_stands : {o : Owner} → Suits all_words o
+    → (p : Place) (xs : Specifiers) (st : List Frame) (q : Place) (c : StorageClass)
     (other : Option Taken)
-    → specifier_at of_parameter p xs st q (storage_word c) other
-    ≡ plainly st (state st (Words of_parameter p (then_specifier xs (storage q c)))) (depth st)
-storage_stands p xs st q storages.Typedef other = refl
-storage_stands p xs st q storages.Extern other = refl
-storage_stands p xs st q storages.Static other = refl
-storage_stands p xs st q storages.Auto other = refl
-storage_stands p xs st q storages.Register other = refl
+    → specifier_at o p xs st q (storage_word c) other
+    ≡ plainly st (state st (Words o p (then_specifier xs (storage q c)))) (depth st)
+storage_stands suits_all p xs st q storages.Typedef other = refl
+storage_stands suits_declaration p xs st q storages.Typedef other = refl
+storage_stands suits_all p xs st q storages.Extern other = refl
+storage_stands suits_declaration p xs st q storages.Extern other = refl
+storage_stands suits_all p xs st q storages.Static other = refl
+storage_stands suits_declaration p xs st q storages.Static other = refl
+storage_stands suits_all p xs st q storages.Auto other = refl
+storage_stands suits_declaration p xs st q storages.Auto other = refl
+storage_stands suits_all p xs st q storages.Register other = refl
+storage_stands suits_declaration p xs st q storages.Register other = refl
 
 qualifier_no_brace : (c : TypeQualifier) → no_brace (qualifier_word c) ≡ true
 qualifier_no_brace Const = refl
@@ -119,6 +127,8 @@ qualifier_stands of_type_name p xs st q Const other = refl
 qualifier_stands of_type_name p xs st q Restrict other = refl
 qualifier_stands of_member p xs st q Const other = refl
 qualifier_stands of_member p xs st q Restrict other = refl
+qualifier_stands of_declaration p xs st q Const other = refl
+qualifier_stands of_declaration p xs st q Restrict other = refl
 
 word_no_brace : (w : TypeWord) → no_brace (type_word w) ≡ true
 word_no_brace void_word = refl
@@ -158,22 +168,37 @@ word_stands of_member p xs st q long_word other = refl
 word_stands of_member p xs st q signed_word other = refl
 word_stands of_member p xs st q unsigned_word other = refl
 word_stands of_member p xs st q bool_word other = refl
+word_stands of_declaration p xs st q void_word other = refl
+word_stands of_declaration p xs st q char_word other = refl
+word_stands of_declaration p xs st q short_word other = refl
+word_stands of_declaration p xs st q int_word other = refl
+word_stands of_declaration p xs st q long_word other = refl
+word_stands of_declaration p xs st q signed_word other = refl
+word_stands of_declaration p xs st q unsigned_word other = refl
+word_stands of_declaration p xs st q bool_word other = refl
 
-pub arrives_storage : {m : State} {p : Place} {xs : Specifiers} {st : List Frame} (q : Place)
-    (c : StorageClass) → Spec m of_parameter p xs st q
+pub arrives_storage : {m : State} {o : Owner} {p : Place} {xs : Specifiers} {st : List Frame}
+    (q : Place) (c : StorageClass) → Suits all_words o → Spec m o p xs st q
     → {r : Role} {d : ℕ} {ts : List Marked} → r ≡ within st → d ≡ depth st
-    → Worded m (at r d q (storage_word c) ∷ ts) ts of_parameter p
-    (then_specifier xs (storage q c)) st
-arrives_storage {p = p} {xs = xs} {st = st} q c h same deep =
+    → Worded m (at r d q (storage_word c) ∷ ts) ts o p (then_specifier xs (storage q c)) st
+arrives_storage {p = p} {xs = xs} {st = st} q c s h same deep =
     worded_one h (storage_word c) (storage q c) (storage_no_brace c)
-    (storage_stands p xs st q c (h.other (storage_word c))) same deep
+    (storage_stands s p xs st q c (h.other (storage_word c))) same deep
 
-pub arrives_inline : {m : State} {p : Place} {xs : Specifiers} {st : List Frame} (q : Place)
-    → Spec m of_parameter p xs st q
+inline_stands : {o : Owner} → Suits all_words o → (p : Place) (xs : Specifiers) (st : List Frame)
+    (q : Place) (other : Option Taken)
+    → specifier_at o p xs st q (keyword keywords.Inline) other
+    ≡ plainly st (state st (Words o p (then_specifier xs (inline q)))) (depth st)
+inline_stands suits_all p xs st q other = refl
+inline_stands suits_declaration p xs st q other = refl
+
+pub arrives_inline : {m : State} {o : Owner} {p : Place} {xs : Specifiers} {st : List Frame}
+    (q : Place) → Suits all_words o → Spec m o p xs st q
     → {r : Role} {d : ℕ} {ts : List Marked} → r ≡ within st → d ≡ depth st
-    → Worded m (at r d q (keyword keywords.Inline) ∷ ts) ts of_parameter p
-    (then_specifier xs (inline q)) st
-arrives_inline q h same deep = worded_one h (keyword keywords.Inline) (inline q) refl refl same deep
+    → Worded m (at r d q (keyword keywords.Inline) ∷ ts) ts o p (then_specifier xs (inline q)) st
+arrives_inline {p = p} {xs = xs} {st = st} q s h same deep =
+    worded_one h (keyword keywords.Inline) (inline q) refl
+    (inline_stands s p xs st q (h.other (keyword keywords.Inline))) same deep
 
 pub arrives_qualifier : {m : State} {o : Owner} {p : Place} {xs : Specifiers} {st : List Frame}
     (q : Place) (c : TypeQualifier) → Spec m o p xs st q
@@ -259,6 +284,7 @@ abbrev pub ends_declarator : Punct → Bool
 ends_declarator puncts.RightParenthesis = true
 ends_declarator puncts.Comma = true
 ends_declarator puncts.Semicolon = true
+ends_declarator puncts.Equal = true
 ends_declarator _ = false
 
 -- the machine stands before the middle of a declarator, after these `*`s
@@ -294,6 +320,7 @@ bare_at md p ps st = record { reads = go } where
   go q puncts.RightParenthesis b l = rw l refl
   go q puncts.Comma b l = rw l refl
   go q puncts.Semicolon b l = rw l refl
+  go q puncts.Equal b l = rw l refl
   go q _ b l = cc
 
 -- the mode of what specifiers stand in, and its frame
@@ -301,33 +328,46 @@ abbrev pub mode_of : Owner → Mode
 mode_of of_type_name = only_abstract
 mode_of of_parameter = either
 mode_of of_member = only_named
+mode_of of_declaration = only_named
 
 abbrev pub owned : Owner → Place → Specifiers → Frame
 owned of_type_name p xs = Owned of_type_name p xs
 owned of_parameter p xs = Owned of_parameter p xs
 owned of_member p xs = OwnedMembers p xs no_declarators
+owned of_declaration p xs = Declaring p xs no_init_declarators
 
 ended_by : (o : Owner) (p : Place) (xs : Specifiers) (st : List Frame) (q : Place) (s : Symbol)
+    → begins_declarator s ≡ true
     → words_ended o p xs st q s ≡ step_pointing (mode_of o) q no_pointers (owned o p xs ∷ st) q s
-ended_by of_type_name p xs st q s = refl
-ended_by of_parameter p xs st q s = refl
-ended_by of_member p xs st q s = refl
+ended_by of_type_name p xs st q s b = refl
+ended_by of_parameter p xs st q s b = refl
+ended_by of_member p xs st q s b = refl
+ended_by of_declaration p xs st q (sign puncts.Semicolon) b = cc
+ended_by of_declaration p xs st q s b = refl
+
+ended_bare : (o : Owner) (p : Place) (xs : Specifiers) (st : List Frame) (q : Place) (s : Symbol)
+    → may_lack_name (mode_of o) ≡ true
+    → words_ended o p xs st q s ≡ step_pointing (mode_of o) q no_pointers (owned o p xs ∷ st) q s
+ended_bare of_type_name p xs st q s l = refl
+ended_bare of_parameter p xs st q s l = refl
+ended_bare of_member p xs st q s l = refl
+ended_bare of_declaration p xs st q s l = cc
 
 pub like_pointed : {n : State} {o : Owner} {p : Place} {xs : Specifiers} {st : List Frame}
     → Like n o p xs st → (y : Place) → Pointed n (mode_of o) y no_pointers (owned o p xs ∷ st)
 like_pointed {n} {o} {p} {xs} {st} h y = record { reads = go } where
-  end : (q : Place) (s : Symbol)
+  end : (q : Place) (s : Symbol) → begins_declarator s ≡ true
       → words_ended o p xs st q s ≡ step_pointing (mode_of o) y no_pointers (owned o p xs ∷ st) q s
-  end q s = ended_by o p xs st q s ∙ any_place (mode_of o) q y (owned o p xs ∷ st) q s
+  end q s b = ended_by o p xs st q s b ∙ any_place (mode_of o) q y (owned o p xs ∷ st) q s
 
   go : (q : Place) (s : Symbol) → begins_declarator s ≡ true
       → step_at n.stack n.at q s ≡ step_pointing (mode_of o) y no_pointers (owned o p xs ∷ st) q s
-  go q (name x) b = h.reads q (name x) refl ∙ end q (name x)
-  go q (sign puncts.Star) b = h.reads q (sign puncts.Star) refl ∙ end q (sign puncts.Star)
+  go q (name x) b = h.reads q (name x) refl ∙ end q (name x) b
+  go q (sign puncts.Star) b = h.reads q (sign puncts.Star) refl ∙ end q (sign puncts.Star) b
   go q (sign puncts.LeftParenthesis) b = h.reads q (sign puncts.LeftParenthesis) refl
-      ∙ end q (sign puncts.LeftParenthesis)
+      ∙ end q (sign puncts.LeftParenthesis) b
   go q (sign puncts.LeftBracket) b = h.reads q (sign puncts.LeftBracket) refl
-      ∙ end q (sign puncts.LeftBracket)
+      ∙ end q (sign puncts.LeftBracket) b
   go q _ b = cc
 
 pub like_bare : {n : State} {o : Owner} {p : Place} {xs : Specifiers} {st : List Frame}
@@ -337,7 +377,7 @@ like_bare {n} {o} {p} {xs} {st} h y = record { reads = go } where
       → may_lack_name (mode_of o) ≡ true
       → step_at n.stack n.at q (sign s) ≡ ended (owned o p xs ∷ st) (only_pointers y no_pointers) s
   whole q s b e l = h.reads q (sign s) b
-      ∙ (ended_by o p xs st q (sign s) ∙ (any_place (mode_of o) q y (owned o p xs ∷ st) q (sign s)
+      ∙ (ended_bare o p xs st q (sign s) l ∙ (any_place (mode_of o) q y (owned o p xs ∷ st) q (sign s)
       ∙ (bare_at (mode_of o) y no_pointers (owned o p xs ∷ st)).reads q s e l))
 
   go : (q : Place) (s : Punct) → ends_declarator s ≡ true → may_lack_name (mode_of o) ≡ true
@@ -345,6 +385,7 @@ like_bare {n} {o} {p} {xs} {st} h y = record { reads = go } where
   go q puncts.RightParenthesis b l = whole q puncts.RightParenthesis refl b l
   go q puncts.Comma b l = whole q puncts.Comma refl b l
   go q puncts.Semicolon b l = whole q puncts.Semicolon refl b l
+  go q puncts.Equal b l = whole q puncts.Equal refl b l
   go q _ b l = cc
 
 abbrev pub has_pointer : Pointers → Bool

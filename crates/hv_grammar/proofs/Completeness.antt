@@ -11,7 +11,7 @@ use Rattle.hv_ctree.specs.tree.Expressions.{Expr, sizeof_type, Arguments, TypeNa
 use Rattle.hv_grammar.specs.Symbols.{Symbol, keyword, name, sign, Role, outside, inside, operator, Marked, at, counted, token_at, BeginsAt, at_first, left_paren, right_paren, left_bracket, right_bracket, left_brace, right_brace, comma_sign, semicolon, equal_sign, level}
 use Rattle.hv_grammar.specs.Symbols as symbols
 use Rattle.hv_grammar.specs.Expressions.{Words as WordKind, Naming, has_type, stars, braced, type_place, compound_place, enumeration_place, Reads, r_identifier, r_constant, r_string, r_parenthesized, r_subscript, r_call_none, r_call, r_member, r_postfix, r_prefix, r_unary, r_sizeof, r_sizeof_type, r_cast, r_binary, r_conditional, r_assign, r_comma, r_higher, ReadsArguments, r_argument, r_arguments, ReadsTypeName, r_type_name, ReadsSpecifiers, r_specifier, r_specifiers, ReadsSpecifier, r_storage, r_inline, r_qualifier, r_type, ReadsType, r_word, r_compound, r_enumeration, r_typedef_name, ReadsCompound, r_defined, r_mentioned, ReadsTag, r_no_tag, r_tag, ReadsMembers, r_member_first, r_members, ReadsMember, r_members_of, ReadsDeclarators, r_declarator_first, r_declarators, ReadsEnumeration, r_listed, r_listed_before, ReadsEnumerators, r_enumerator, r_enumerators, ReadsEnumerator, r_plain, r_valued, ReadsLastComma, r_no_comma, r_last_comma, ReadsDeclarator, r_declarator, ReadsDirect, r_core, r_suffix, ReadsCore, r_nothing, r_named, r_group, ReadsSuffix, r_unsized, r_sized, r_function, r_unprototyped, ReadsParameterTypes, r_fixed, r_variadic, ReadsParameters, r_parameter, r_parameters, ReadsParameter, r_parameter_named, r_parameter_abstract, ReadsAbstract, r_no_declarator, r_abstract}
-use Rattle.hv_grammar.specs.machine.Frames.{Owner, of_type_name, of_parameter, of_member, Mode, only_named, either, Frame, Parenthesis, AfterSizeof, Subscript, Callee, Calling, Prefix, Unary, Sizeof, SizeofType, CastType, Cast, Binary, Then, Else, Assign, Comma, Specified, Body, Listing, Valued, Owned, OwnedMembers, Group, Length, Parameters, hole_of, depth, within, State, Words, AfterCompound, AfterTag, AfterEnum, AfterEnumTag, MemberStart, EnumeratorStart, AfterEnumerator, Pointing, Direct, Bracket, ParameterNext, AfterEllipsis, by_operator, by_assignment, by_question, by_comma, by_bracket, by_parenthesis}
+use Rattle.hv_grammar.specs.machine.Frames.{Owner, of_type_name, of_parameter, of_member, of_declaration, Mode, only_named, either, Frame, Parenthesis, AfterSizeof, Subscript, Callee, Calling, Prefix, Unary, Sizeof, SizeofType, CastType, Cast, Binary, Then, Else, Assign, Comma, Specified, Body, Listing, Valued, Owned, OwnedMembers, Group, Length, Parameters, hole_of, depth, within, State, Words, AfterCompound, AfterTag, AfterEnum, AfterEnumTag, MemberStart, EnumeratorStart, AfterEnumerator, Pointing, Direct, Bracket, ParameterNext, AfterEllipsis, by_operator, by_assignment, by_question, by_comma, by_bracket, by_parenthesis}
 use Rattle.hv_grammar.specs.machine.Steps.{state, want, have, Taken, quiet, loud, plainly, operand_at, ended, begins, may_lack_name, only_pointers, bracket_at, brace_at, comma_at, after, listed_at, body_ended, ellipsis_at, step_at}
 use Rattle.hv_grammar.specs.machine.Moves.{taken, Moves, stays, takes}
 use Rattle.hv_grammar.proofs.Arriving.{sized_at, joined, one, steps, Entry, entered, want_prefix, want_unary, want_sizeof, want_cast, want_then, want_calling, want_begun, Arrives, arrives_sized, arrives_higher, arrives_completed, arrives_identifier, arrives_constant, arrives_string, opens_paren, arrives_paren, arrives_subscript, arrives_call_none, ArrivesArguments, arrives_first, arrives_next, arrives_call, arrives_member, arrives_postfix, arrives_prefix, arrives_unary, arrives_sizeof, arrives_binary, arrives_conditional, arrives_assign, arrives_comma}
@@ -30,12 +30,14 @@ within_owned : (o : Owner) (p : Place) (xs : Specifiers) (st : List Frame)
 within_owned of_type_name p xs st = refl
 within_owned of_parameter p xs st = refl
 within_owned of_member p xs st = refl
+within_owned of_declaration p xs st = refl
 
 depth_owned : (o : Owner) (p : Place) (xs : Specifiers) (st : List Frame)
     → depth (owned o p xs ∷ st) ≡ depth st
 depth_owned of_type_name p xs st = refl
 depth_owned of_parameter p xs st = refl
 depth_owned of_member p xs st = refl
+depth_owned of_declaration p xs st = refl
 
 ------ type names
 
@@ -316,9 +318,9 @@ mutual
   read_type_name (r_type_name {xs = xs} {p = p} b r s) m st f same deep =
       let w = read_specifiers r m of_type_name p st b (f p) suits_type_name same deep in
       let h = read_abstract s w.there of_type_name p xs st w.like refl same deep in
-      record { there = h.there; moves = joined w.moves h.moves; ends = h.ends }
+      record { there = h.there; moves = joined w.moves h.moves; ends = h.ends; body = h.body }
 
-  read_specifiers : {r : Role} {d : ℕ} {w : WordKind} {ts us : List Marked} {xs : Specifiers}
+  pub read_specifiers : {r : Role} {d : ℕ} {w : WordKind} {ts us : List Marked} {xs : Specifiers}
       → ReadsSpecifiers r d w ts us xs → (m : State) (o : Owner) (p : Place) (st : List Frame)
       → BeginsAt p ts → Spec m o p no_specifiers st p → Suits w o → r ≡ within st → d ≡ depth st
       → Worded m ts us o p xs st
@@ -334,10 +336,10 @@ mutual
       → (m : State) (o : Owner) (p : Place) (xs : Specifiers) (st : List Frame)
       → ((q : Place) → BeginsAt q ts → Spec m o p xs st q) → Suits w o → seen ≡ has_type xs
       → r ≡ within st → d ≡ depth st → Worded m ts us o p (then_specifier xs x) st
-  read_specifier (r_storage q c) m o p xs st f suits_all seen same deep =
-      arrives_storage q c (f q (at_first _ _)) same deep
-  read_specifier (r_inline q) m o p xs st f suits_all seen same deep =
-      arrives_inline q (f q (at_first _ _)) same deep
+  read_specifier (r_storage q c) m o p xs st f s seen same deep =
+      arrives_storage q c s (f q (at_first _ _)) same deep
+  read_specifier (r_inline q) m o p xs st f s seen same deep =
+      arrives_inline q s (f q (at_first _ _)) same deep
   read_specifier (r_qualifier q c) m o p xs st f s seen same deep =
       arrives_qualifier q c (f q (at_first _ _)) same deep
   read_specifier (r_type h) m o p xs st f s seen same deep =
@@ -503,12 +505,17 @@ mutual
       → Like n o p xs st → may_lack_name (mode_of o) ≡ true → r ≡ within st → d ≡ depth st
       → Declared n ts us x (owned o p xs ∷ st)
   read_abstract r_no_declarator n o p xs st h l same deep =
-      record { there = n; moves = stays; ends = λ q s e. (like_bare h p).reads q s e l }
+      record {
+        there = n;
+        moves = stays;
+        ends = λ q s e. (like_bare h p).reads q s e l;
+        body = λ q e. cc;
+      }
   read_abstract (r_abstract r) n o p xs st h l same deep =
       read_declarator r n (mode_of o) p (owned o p xs ∷ st) (like_pointed h p) l
       (same ∙ sym (within_owned o p xs st)) (deep ∙ sym (depth_owned o p xs st))
 
-  read_declarator : {r : Role} {d : ℕ} {k : Naming} {ts us : List Marked} {x : Declarator}
+  pub read_declarator : {r : Role} {d : ℕ} {k : Naming} {ts us : List Marked} {x : Declarator}
       → ReadsDeclarator r d k ts us x → (m : State) (md : Mode) (y : Place) (st : List Frame)
       → Pointed m md y no_pointers st → fits_mode k md ≡ true → r ≡ within st → d ≡ depth st
       → Declared m ts us (some_declarator x) st

@@ -14,32 +14,32 @@ use Rattle.hv_grammar.specs.Refusal.{Limits, source_limits}
 use Rattle.hv_grammar.specs.machine.Steps.{want}
 use Rattle.hv_grammar.specs.machine.Answers.{Answer, Accepted, Refused, answer}
 
-abbrev on : ℕ → Place
+abbrev pub on : ℕ → Place
 on n = record { stack = []; file = 0; offset = n }
 
-abbrev from : ℕ → List Symbol → List Token
+abbrev pub from : ℕ → List Symbol → List Token
 from n [] = []
 from n (s ∷ rest) = token_at (on n) s ∷ from (suc n) rest
 
 abbrev read : List Symbol → Answer
 read symbols = answer source_limits (want []) 0 0 (from 0 symbols)
 
-abbrev small : Limits
+abbrev pub small : Limits
 small = record { brackets = 4; operators = 3; statements = 4 }
 
 abbrev read_small : List Symbol → Answer
 read_small symbols = answer small (want []) 0 0 (from 0 symbols)
 
-abbrev a : Symbol
+abbrev pub a : Symbol
 a = name (codes "a")
 
-abbrev b : Symbol
+abbrev pub b : Symbol
 b = name (codes "b")
 
-abbrev c : Symbol
+abbrev pub c : Symbol
 c = name (codes "c")
 
-abbrev T : Symbol
+abbrev pub T : Symbol
 T = marked (codes "T")
 
 abbrev star : Symbol
@@ -51,7 +51,7 @@ plus_plus = sign puncts.PlusPlus
 abbrev size : Symbol
 size = keyword keywords.Sizeof
 
-abbrev int : Symbol
+abbrev pub int : Symbol
 int = keyword keywords.Int
 
 abbrev plus_sign : Symbol

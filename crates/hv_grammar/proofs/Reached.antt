@@ -11,12 +11,16 @@ use Rattle.hv_ctree.specs.declared.tree.words.Step.{Step as StepSign}
 use Rattle.hv_ctree.specs.declared.tree.words.StructOrUnion.{StructOrUnion}
 use Rattle.hv_ctree.specs.declared.tree.words.UnaryOperator.{UnaryOperator}
 use Rattle.hv_ctree.specs.tree.Expressions.{Expr, Arguments, TypeName, Specifiers, no_specifiers, then_specifier, Specifier, MayTag, Members, no_members, Declarator, MayDeclarator, no_declarator, some_declarator, Declarators, no_declarators, Enumerators, no_enumerators, Core, nothing, named, group, Suffixes, no_suffixes, then_suffix, Suffix, Parameters as ParameterList, no_parameters, Pointers, no_pointers, then_pointer, Qualifiers}
-use Rattle.hv_grammar.specs.Symbols.{Symbol, keyword, name, sign, Role, operator, Marked, at, quiet, counted, BeginsAt, left_paren, right_paren, left_bracket, left_brace, comma_sign, colon, equal_sign, binary_sign, level, unary_sign, assignment_sign, selector_sign, step_sign, compound_word}
-use Rattle.hv_grammar.specs.Expressions.{Words as WordKind, all_words, type_words, Naming, has_type, stars, braced, has_part, Reads, r_higher, ReadsArguments, ReadsTypeName, ReadsSpecifiers, r_specifier, r_specifiers, ReadsSpecifier, ReadsTag, ReadsMembers, ReadsDeclarator, ReadsDeclarators, ReadsEnumerators, ReadsPointers, ReadsQualifiers, ReadsDirect, ReadsParameters}
-use Rattle.hv_grammar.specs.machine.Frames.{Owner, of_type_name, of_parameter, of_member, Mode, only_named, only_abstract, either, Frame, Parenthesis, AfterSizeof, Subscript, Callee, Calling, Prefix, Unary, Sizeof, SizeofType, CastType, Cast, Binary, Then, Else, Assign, Comma, Specified, Body, Listing, Valued, Owned, OwnedMembers, Group, Length, Parameters, hole, hole_of, made, depth, within, At, Want, Have, Selecting, Words, AfterCompound, AfterTag, AfterEnum, AfterEnumTag, MemberStart, EnumeratorStart, AfterEnumerator, Pointing, Opened, Direct, Bracket, ParametersStart, ParameterNext, AfterEllipsis, State}
+use Rattle.hv_ctree.specs.tree.Statements.{Designation, of_index, of_member, Initializer, Initializers, no_initializers, InitDeclarators, no_init_declarators, Declaration, Skeleton, hollow_if, hollow_if_else}
+use Rattle.hv_grammar.specs.Elements.{Standing, External, Item, Nested, loose, ReadsDesignation, ReadsInitializer, ReadsInitializers, ReadsInitDeclarators, ReadsDeclaration, ReadsOption, ReadsStatement, ReadsElement, r_item_statement, r_nested}
+use Rattle.hv_grammar.specs.machine.Parts.{Setting, alone, in_for, FirstClause, by_expression, by_declaration, Optional, for_first, for_second, for_third, of_return, Part, of_case, of_expression, of_if, of_switch, of_while, of_do, optional, Fixed, the_hole, the_else, the_opening, Spot, Start, Await, Opening, AfterIf, MayElse, ForOpening, ForStart, Before, fixed_symbol, wanted}
+use Rattle.hv_grammar.specs.Symbols.{Symbol, keyword, name, sign, Role, operator, Marked, at, quiet, counted, BeginsAt, left_paren, right_paren, left_bracket, right_bracket, left_brace, comma_sign, colon, semicolon, equal_sign, binary_sign, level, unary_sign, assignment_sign, selector_sign, step_sign, compound_word}
+use Rattle.hv_grammar.specs.Expressions.{Words as WordKind, all_words, type_words, Naming, with_name, has_type, stars, braced, has_part, Reads, r_higher, ReadsArguments, ReadsTypeName, ReadsSpecifiers, r_specifier, r_specifiers, ReadsSpecifier, ReadsTag, ReadsMembers, ReadsDeclarator, ReadsDeclarators, ReadsEnumerators, ReadsPointers, ReadsQualifiers, ReadsDirect, ReadsParameters}
+use Rattle.hv_grammar.specs.machine.Frames.{Owner, of_type_name, of_parameter, of_member, of_declaration, Mode, only_named, only_abstract, either, Frame, Parenthesis, AfterSizeof, Subscript, Callee, Calling, Prefix, Unary, Sizeof, SizeofType, CastType, Cast, Binary, Then, Else, Assign, Comma, Specified, Body, Listing, Valued, Owned, OwnedMembers, Group, Length, Parameters, Braces, Index, Designated, Declares, Declaring, Initialized, Statement, hole, hole_of, made, depth, within, At, Want, Have, Selecting, Words, AfterCompound, AfterTag, AfterEnum, AfterEnumTag, MemberStart, EnumeratorStart, AfterEnumerator, Pointing, Opened, Direct, Bracket, ParametersStart, ParameterNext, AfterEllipsis, InitializerStart, BracesStart, AfterDot, AfterDesignator, AfterInitializer, AtSpot, State}
 use Rattle.hv_grammar.specs.machine.Steps.{Taken, begins, may_lack_name}
 use Rattle.hv_grammar.proofs.Arriving.{level-most}
 use Rattle.hv_grammar.proofs.ArrivingDeclarators.{fits_mode}
+use Rattle.hv_grammar.proofs.ArrivingInitializers.{TakesInitializer}
 
 ------ what may stand round a frame
 
@@ -25,6 +29,7 @@ abbrev pub words_of : Owner → WordKind
 words_of of_type_name = type_words
 words_of of_parameter = all_words
 words_of of_member = type_words
+words_of of_declaration = all_words
 
 -- whether a `(` directly after `sizeof` is what was read last
 abbrev pub is_sized : List Frame → Bool
@@ -40,6 +45,7 @@ pub data Site : Owner → List Frame → Type 0 where
       → Site of_parameter (Parameters m p ps c ss b f xs ∷ st)
   in_body : {p : Place} {k : StructOrUnion} {t : MayTag} {ms : Members} {st : List Frame}
       → Site of_member (Body p k t ms ∷ st)
+  in_element : {s : Standing} {c : Setting} → Site of_declaration (Declares s c ∷ [])
 
 -- a declarator that may be of these kinds stands directly in these frames
 pub data Hosts : Mode → List Frame → Type 0 where
@@ -51,6 +57,8 @@ pub data Hosts : Mode → List Frame → Type 0 where
       → Hosts only_named (OwnedMembers p xs ds ∷ st)
   host_group : {m : Mode} {p q : Place} {ps : Pointers} {st : List Frame}
       → Hosts m (Group m p ps q ∷ st)
+  host_declaration : {p : Place} {xs : Specifiers} {ds : InitDeclarators} {st : List Frame}
+      → Hosts only_named (Declaring p xs ds ∷ st)
 
 pub data IsSpecified : List Frame → Type 0 where
   is_specified : {o : Owner} {p : Place} {xs : Specifiers} {st : List Frame}
@@ -59,6 +67,16 @@ pub data IsSpecified : List Frame → Type 0 where
 pub data IsListing : List Frame → Type 0 where
   is_listing : {p : Place} {t : MayTag} {es : Enumerators} {st : List Frame}
       → IsListing (Listing p t es ∷ st)
+
+pub data IsBraces : List Frame → Type 0 where
+  is_braces : {q : Place} {xs : Initializers} {st : List Frame} → IsBraces (Braces q xs ∷ st)
+
+pub data IsDeclaring : List Frame → Type 0 where
+  is_declaring : {p : Place} {xs : Specifiers} {ds : InitDeclarators} {s : Standing} {c : Setting}
+      → IsDeclaring (Declaring p xs ds ∷ Declares s c ∷ [])
+
+pub data IsBottom : List Frame → Type 0 where
+  is_bottom : IsBottom []
 
 -- the frame may stand directly in these; a `(` directly after `sizeof` is no frame yet
 abbrev pub Inside : Frame → List Frame → Type 0
@@ -72,6 +90,13 @@ Inside (OwnedMembers p xs ds) st = Site of_member st
 Inside (Group m p ps q) st = Hosts m st
 Inside (Length m p ps c ss b qs) st = Hosts m st
 Inside (Parameters m p ps c ss b f xs) st = Hosts m st
+Inside (Braces p xs) st = TakesInitializer st
+Inside (Index p) st = IsBraces st
+Inside (Designated g) st = IsBraces st
+Inside (Declares s c) st = IsBottom st
+Inside (Declaring p xs ds) st = Site of_declaration st
+Inside (Initialized x) st = IsDeclaring st
+Inside (Statement s c) st = IsBottom st
 Inside _ st = Unit {0}
 
 ------ what a frame keeps was read
@@ -122,6 +147,80 @@ pub record DirectFrom (m : Mode) (p : Place) (ps : Pointers) (c : Core) (ss : Su
   pub middle : List Marked
   pub pointers : ReadsPointers r d ts middle ps
   pub direct : ReadsDirect r (stars ps d) naming middle us c ss
+
+-- initialisers and the comma after them, or none
+pub data InitializersFrom : Initializers → ℕ → List Marked → List Marked → Type 0 where
+  no_initializer_yet : {d : ℕ} {us : List Marked} → InitializersFrom no_initializers d us us
+  initializers_read : {xs : Initializers} {d : ℕ} {ts us : List Marked} (q : Place)
+      → ReadsInitializers d ts (loose d q comma_sign ∷ us) xs → InitializersFrom xs d ts us
+
+-- declarators of a declaration and the comma after them, or none
+pub data InitDeclaratorsFrom : InitDeclarators → List Marked → List Marked → Type 0 where
+  no_init_yet : {us : List Marked} → InitDeclaratorsFrom no_init_declarators us us
+  inits_read : {ds : InitDeclarators} {ts us : List Marked} (q : Place)
+      → ReadsInitDeclarators ts (loose 0 q comma_sign ∷ us) ds → InitDeclaratorsFrom ds ts us
+
+-- a statement may stand there
+pub data StandsStatement : Standing → Type 0 where
+  stands_item : StandsStatement Item
+  stands_nested : StandsStatement Nested
+
+-- and a declaration
+pub data StandsDeclaration : Standing → Type 0 where
+  stands_external : StandsDeclaration External
+  stands_in_block : StandsDeclaration Item
+
+pub as_element : {s : Standing} {ts us : List Marked} {k : Skeleton} → StandsStatement s
+    → ReadsStatement ts us k → ReadsElement s ts us k
+as_element stands_item h = r_item_statement h
+as_element stands_nested h = r_nested h
+
+-- the first clause of a `for`, with the `;` of an expression
+pub data FirstFrom : FirstClause → List Marked → List Marked → Type 0 where
+  expression_first : {ts us : List Marked} {a : Option Expr} (q : Place)
+      → ReadsOption ts (loose 0 q semicolon ∷ us) a → FirstFrom (by_expression a) ts us
+  declaration_first : {ts us : List Marked} {g : Declaration} → ReadsDeclaration ts us g
+      → FirstFrom (by_declaration g) ts us
+
+-- what was read of a statement up to an expression that may be missing
+pub data OptionalFrom : Optional → List Marked → List Marked → Type 0 where
+  from_for : {ts : List Marked} (p q : Place)
+      → OptionalFrom (for_first p)
+      (loose 0 p (keyword keywords.For) ∷ loose 0 q left_paren ∷ ts) ts
+  from_first : {p : Place} {g : FirstClause} {ts us : List Marked} (q : Place)
+      → FirstFrom g ts us
+      → OptionalFrom (for_second p g)
+      (loose 0 p (keyword keywords.For) ∷ loose 0 q left_paren ∷ ts) us
+  from_second : {p : Place} {g : FirstClause} {b : Option Expr} {ts us vs : List Marked}
+      (q y : Place) → FirstFrom g ts us → ReadsOption us (loose 0 y semicolon ∷ vs) b
+      → OptionalFrom (for_third p g b)
+      (loose 0 p (keyword keywords.For) ∷ loose 0 q left_paren ∷ ts) vs
+  from_return : {ts : List Marked} (p : Place)
+      → OptionalFrom (of_return p) (loose 0 p (keyword keywords.Return) ∷ ts) ts
+
+-- and up to any expression
+pub data PartFrom : Part → List Marked → List Marked → Type 0 where
+  from_case : {ts : List Marked} (p : Place)
+      → PartFrom (of_case p) (loose 0 p (keyword keywords.Case) ∷ ts) ts
+  from_nothing : {ts : List Marked} → PartFrom of_expression ts ts
+  from_if : {ts : List Marked} (p q : Place)
+      → PartFrom (of_if p) (loose 0 p (keyword keywords.If) ∷ loose 0 q left_paren ∷ ts) ts
+  from_switch : {ts : List Marked} (p q : Place)
+      → PartFrom (of_switch p)
+      (loose 0 p (keyword keywords.Switch) ∷ loose 0 q left_paren ∷ ts) ts
+  from_while : {ts : List Marked} (p q : Place)
+      → PartFrom (of_while p) (loose 0 p (keyword keywords.While) ∷ loose 0 q left_paren ∷ ts) ts
+  from_do : {ts : List Marked} (p h w q : Place)
+      → PartFrom (of_do p) (loose 0 p (keyword keywords.Do) ∷ loose 0 h (fixed_symbol the_hole)
+      ∷ loose 0 w (keyword keywords.While) ∷ loose 0 q left_paren ∷ ts) ts
+  from_optional : {c : Optional} {ts us : List Marked} → OptionalFrom c ts us
+      → PartFrom (optional c) ts us
+
+-- what was read of an element up to a declaration
+pub data DeclaresFrom : Standing → Setting → List Marked → List Marked → Type 0 where
+  from_start : {s : Standing} {ts : List Marked} → StandsDeclaration s → DeclaresFrom s alone ts ts
+  from_for_start : {s : Standing} {p : Place} {ts us : List Marked} → StandsStatement s
+      → OptionalFrom (for_first p) ts us → DeclaresFrom s (in_for p) ts us
 
 pub data Began : Frame → Role → ℕ → List Marked → List Marked → Type 0 where
   b_parenthesis : {r : Role} {d : ℕ} {ts : List Marked} (p : Place)
@@ -194,6 +293,23 @@ pub data Began : Frame → Role → ℕ → List Marked → List Marked → Type
       → DirectFrom m p ps c ss r d ts (at r (suc (stars ps d)) b left_paren ∷ us)
       → ParametersFrom f xs r (suc (stars ps d)) us vs
       → Began (Parameters m p ps c ss b f xs) r d ts vs
+  b_braces : {p : Place} {xs : Initializers} {r : Role} {d : ℕ} {ts us : List Marked}
+      → InitializersFrom xs (suc d) ts us
+      → Began (Braces p xs) r d (loose (suc d) p left_brace ∷ ts) us
+  b_index : {r : Role} {d : ℕ} {ts : List Marked} (p : Place)
+      → Began (Index p) r d (loose (suc d) p left_bracket ∷ ts) ts
+  b_designated : {g : Designation} {r : Role} {d : ℕ} {ts us : List Marked}
+      → ReadsDesignation d ts us g → Began (Designated g) r d ts us
+  b_declares : {s : Standing} {c : Setting} {r : Role} {d : ℕ} {ts us : List Marked}
+      → DeclaresFrom s c ts us → Began (Declares s c) r d ts us
+  b_declaring : {p : Place} {xs : Specifiers} {ds : InitDeclarators} {r : Role} {d : ℕ}
+      {ts us vs : List Marked} → BeginsAt p ts → ReadsSpecifiers r d all_words ts us xs
+      → InitDeclaratorsFrom ds us vs → Began (Declaring p xs ds) r d ts vs
+  b_initialized : {x : Declarator} {r : Role} {d : ℕ} {ts us : List Marked} (q : Place)
+      → ReadsDeclarator r d with_name ts (at r d q equal_sign ∷ us) x
+      → Began (Initialized x) r d ts us
+  b_statement : {s : Standing} {c : Part} {r : Role} {d : ℕ} {ts us : List Marked}
+      → StandsStatement s → PartFrom c ts us → Began (Statement s c) r d ts us
 
 -- the frames were read, and each fits the one around it
 pub data Stacked : List Frame → List Marked → List Marked → Type 0 where
@@ -313,6 +429,72 @@ pub data NextAt : List Frame → List Marked → List Marked → Type 0 where
       (at (within st) (suc (stars ps (depth st))) q comma_sign ∷ us) xs
       → NextAt (Parameters m p ps c ss b f xs ∷ st) ws us
 
+------ in an element
+
+-- these tokens are the terminals
+pub data Terminals : List Fixed → List Marked → List Marked → Type 0 where
+  no_terminal : {us : List Marked} → Terminals [] us us
+  a_terminal : {e : Fixed} {es : List Fixed} {us vs : List Marked} (p : Place)
+      → Terminals es us vs → Terminals (e ∷ es) (loose 0 p (fixed_symbol e) ∷ us) vs
+
+-- where the terminals follow, the element is read whole
+abbrev pub Awaits : Standing → List Fixed → Skeleton → List Marked → List Marked → Type 0
+Awaits s es k ws us = (vs : List Marked) → Terminals es us vs → ReadsElement s ws vs k
+
+pub record BeforePart (s : Standing) (es : List Fixed) (c : Part) (ws us : List Marked) : Type 0
+  where
+    pub stands : StandsStatement s
+    pub part : (vs : List Marked) → Terminals es us vs → PartFrom c ws vs
+
+pub record BeforeOptional (s : Standing) (es : List Fixed) (c : Optional) (ws us : List Marked)
+    : Type 0 where
+  pub stands : StandsStatement s
+  pub part : (vs : List Marked) → Terminals es us vs → OptionalFrom c ws vs
+
+abbrev pub SpotRead : Standing → Spot → List Marked → List Marked → Type 0
+SpotRead s Start ws us = ws ≡ us
+SpotRead s (Await es k) ws us = Awaits s es k ws us
+SpotRead s (Opening [] c) ws us = ⊥
+SpotRead s (Opening (e ∷ es) c) ws us = BeforePart s (e ∷ es) c ws us
+SpotRead s (AfterIf p a) ws us = Awaits s (the_hole ∷ []) (hollow_if p a 0) ws us
+    × Awaits s (the_hole ∷ the_else ∷ the_hole ∷ []) (hollow_if_else p a 0 1) ws us
+SpotRead s (MayElse p a) ws us = Awaits s [] (hollow_if p a 0) ws us
+    × Awaits s (the_else ∷ the_hole ∷ []) (hollow_if_else p a 0 1) ws us
+SpotRead s (ForOpening p) ws us = BeforeOptional s (the_opening ∷ []) (for_first p) ws us
+SpotRead s (ForStart p) ws us = BeforeOptional s [] (for_first p) ws us
+SpotRead s (Before c) ws us = BeforeOptional s [] c ws us
+
+-- a designator
+pub data DesignatorFrom : Designation → ℕ → List Marked → List Marked → Type 0 where
+  index_read : {d : ℕ} {ts us : List Marked} {a : Expr} (p q : Place)
+      → Reads (suc d) 2 ts (loose (suc d) q right_bracket ∷ us) a
+      → DesignatorFrom (of_index p a) d (loose (suc d) p left_bracket ∷ ts) us
+  member_read : {d : ℕ} {ts : List Marked} (p q : Place) (n : List ℕ)
+      → DesignatorFrom (of_member p n) d
+      (loose d p (sign puncts.Dot) ∷ loose d q (name n) ∷ ts) ts
+
+pub record InitialAt (stack : List Frame) (ws us : List Marked) : Type 0 where
+  pub host : TakesInitializer stack
+  pub stacked : Stacked stack ws us
+
+pub record ItemAt (stack : List Frame) (ws us : List Marked) : Type 0 where
+  pub braces : IsBraces stack
+  pub stacked : Stacked stack ws us
+
+pub record DesignatorAt (g : Designation) (stack : List Frame) (ws us : List Marked) : Type 0
+  where
+    pub from : List Marked
+    pub braces : IsBraces stack
+    pub stacked : Stacked stack ws from
+    pub reads : DesignatorFrom g (depth stack) from us
+
+pub record InitializedAt (x : Initializer) (stack : List Frame) (ws us : List Marked) : Type 0
+  where
+    pub from : List Marked
+    pub host : TakesInitializer stack
+    pub stacked : Stacked stack ws from
+    pub reads : ReadsInitializer (depth stack) from us x
+
 abbrev pub ReadAt : List Frame → At → Bool → List Marked → List Marked → Type 0
 ReadAt stack Want x ws us = WantsAt stack x ws us
 ReadAt stack (Have k a) x ws us = Holds k stack a ws us
@@ -342,6 +524,13 @@ ReadAt stack (ParametersStart m p ps c ss b) x ws us =
 ReadAt stack ParameterNext x ws us = NextAt stack ws us
 ReadAt stack AfterEllipsis x ws us = (q : Place)
     × NextAt stack ws (at (within stack) (depth stack) q (sign puncts.Ellipsis) ∷ us)
+ReadAt stack InitializerStart x ws us = InitialAt stack ws us
+ReadAt stack BracesStart x ws us = ItemAt stack ws us
+ReadAt stack (AfterDot p) x ws us =
+    ItemAt stack ws (loose (depth stack) p (sign puncts.Dot) ∷ us)
+ReadAt stack (AfterDesignator g) x ws us = DesignatorAt g stack ws us
+ReadAt stack (AfterInitializer y) x ws us = InitializedAt y stack ws us
+ReadAt stack (AtSpot s y) x ws us = SpotRead s y ws us
 
 abbrev pub ReadState : State → Bool → List Marked → List Marked → Type 0
 ReadState m x ws us = ReadAt m.stack m.at x ws us
@@ -386,6 +575,10 @@ branches B p s false u v f g = g refl
 ------ levels
 
 hole_most : (f : Frame) → hole f ≤ 16
+hole_most (Statement s c) = wanted_most c where
+  wanted_most : (c : Part) → wanted c ≤ 16
+  wanted_most (of_case p) = omega arith
+  wanted_most _ = omega arith
 hole_most (Binary op a) = let h = level-most op in omega arith
 hole_most _ = omega arith
 

@@ -1,5 +1,5 @@
 -- What the machine makes of a token of a declarator, the grammar derives.
-use Rattle.std.proofs.Common.{◌≡◌, ℕ, suc, Bool, true, false, cond, List, ◌∷◌, refl, arith, Option, Some, None}
+use Rattle.std.proofs.Common.{◌≡◌, ℕ, suc, Bool, true, false, cond, List, [], ◌∷◌, refl, arith, Option, Some, None}
 use Rattle.hv_base.specs.declared.place.Place.{Place}
 use Rattle.hv_base.specs.declared.keyword.Keyword.{Keyword}
 use Rattle.hv_base.specs.declared.keyword.Keyword.TheVariants as keywords
@@ -8,11 +8,17 @@ use Rattle.hv_base.specs.declared.punct.Punct.TheVariants as puncts
 use Rattle.hv_ctree.specs.declared.tree.words.TypeQualifier.{TypeQualifier}
 use Rattle.hv_ctree.specs.declared.tree.words.TypeQualifier.TheVariants.{Const, Restrict}
 use Rattle.hv_ctree.specs.tree.Expressions.{sizeof_type, type_name, Specifiers, no_specifiers, Members, then_member, members_of, Declarators, then_declarator, Declarator, declarator, MayDeclarator, some_declarator, Core, nothing, named, group, Suffixes, no_suffixes, then_suffix, unsized, function, unprototyped, parameter_types, Parameters as ParameterList, no_parameters, then_parameter, Parameter, parameter, Pointers, no_pointers, then_pointer, Qualifiers, no_qualifiers, then_qualifier}
-use Rattle.hv_grammar.specs.Symbols.{Symbol, keyword, name, sign, Role, inside, Marked, at, quiet, BeginsAt, at_first, left_paren, right_paren, left_bracket, right_bracket, comma_sign, semicolon, qualifier_word}
+use Rattle.hv_ctree.specs.tree.Statements.{bare, InitDeclarators, no_init_declarators, then_init_declarator, hollow_function}
+use Rattle.hv_grammar.specs.Elements.{External, loose, r_bare, r_declaration, ReadsElement, r_function_definition}
+use Rattle.hv_grammar.specs.machine.Parts.{alone, the_hole, the_right_brace}
+use Rattle.hv_grammar.specs.Symbols.{Symbol, keyword, name, sign, Role, outside, inside, Marked, at, quiet, BeginsAt, at_first, left_paren, right_paren, left_bracket, right_bracket, left_brace, comma_sign, semicolon, equal_sign, qualifier_word}
 use Rattle.hv_grammar.specs.Expressions.{all_words, with_name, without_name, stars, r_sizeof_type, r_type_name, ReadsSpecifiers, ReadsMembers, r_member_first, r_members, ReadsMember, r_members_of, ReadsDeclarators, r_declarator_first, r_declarators, ReadsDeclarator, r_declarator, ReadsPointers, r_no_pointers, r_pointer, r_no_qualifiers, r_qualifiers, r_core, r_suffix, r_nothing, r_named, r_group, r_unsized, r_function, r_unprototyped, r_fixed, r_variadic, ReadsParameters, r_parameter, r_parameters, ReadsParameter, r_parameter_named, r_parameter_abstract, r_no_declarator, r_abstract, ReadsAbstract}
-use Rattle.hv_grammar.specs.machine.Frames.{of_type_name, of_parameter, Mode, only_named, only_abstract, either, Frame, SizeofType, CastType, Cast, Body, Owned, OwnedMembers, Group, Length, Parameters, depth, within, Direct, Bracket}
-use Rattle.hv_grammar.specs.machine.Steps.{state, Taken, plainly, operand_at, qualifier_of, may_name, may_lack_name, begins, qualified, after_parameter, after_member, after_type_name, after_group, ended, only_pointers, pointing_qualifier, pointing_keyword, opened_at, pointing_sign, step_pointing, opened_sign, step_opened, step_direct, bracket_keyword, step_bracket, no_parameters_at, step_parameters, ellipsis_at, step_ellipsis, first_word}
-use Rattle.hv_grammar.proofs.Reached.{in_parameters, in_body, Hosts, host_type, host_members, host_group, none_yet, MembersFrom, no_member_yet, members_read, DeclaratorsFrom, no_declarator_yet, declarators_read, ParametersFrom, no_parameter_yet, parameters_read, DirectFrom, b_sizeof_type, b_cast_type, b_cast, b_body, b_owned, b_members, b_group, b_length, b_parameters, Stacked, more, Holds, Wants, w_plainly, MemberAt, PointingAt, OpenedAt, MiddleAt, WholeAt, BracketAt, NextAt, next_at, Leads, once, leads_by, branches, fits_most, Specs, part_suffix, part_named, part_group, MayRead, m_none, m_some, EndedAt}
+use Rattle.hv_grammar.specs.machine.Frames.{of_type_name, of_parameter, Mode, only_named, only_abstract, either, Frame, SizeofType, CastType, Cast, Body, Owned, OwnedMembers, Group, Length, Parameters, Declares, Declaring, Initialized, depth, within, Direct, Bracket}
+use Rattle.hv_grammar.specs.machine.Steps.{state, Taken, plainly, operand_at, qualifier_of, may_name, may_lack_name, begins, qualified, after_parameter, after_member, after_type_name, after_group, after_init, body_at, declarator_place, ended, only_pointers, pointing_qualifier, pointing_keyword, opened_at, pointing_sign, step_pointing, opened_sign, step_opened, step_direct, bracket_keyword, step_bracket, no_parameters_at, step_parameters, ellipsis_at, step_ellipsis, first_word}
+use Rattle.hv_grammar.proofs.Reached.{in_parameters, in_body, in_element, Hosts, host_declaration, is_declaring, no_init_yet, inits_read, from_start, b_declares, b_declaring, b_initialized, empty, Terminals, no_terminal, a_terminal, Awaits, InitialAt, host_type, host_members, host_group, none_yet, MembersFrom, no_member_yet, members_read, DeclaratorsFrom, no_declarator_yet, declarators_read, ParametersFrom, no_parameter_yet, parameters_read, DirectFrom, b_sizeof_type, b_cast_type, b_cast, b_body, b_owned, b_members, b_group, b_length, b_parameters, Stacked, more, Holds, Wants, w_plainly, MemberAt, PointingAt, OpenedAt, MiddleAt, WholeAt, BracketAt, NextAt, next_at, Leads, once, leads_by, branches, fits_most, Specs, part_suffix, part_named, part_group, MayRead, m_none, m_some, EndedAt}
+use Rattle.hv_grammar.proofs.ArrivingInitializers.{in_declaration}
+use Rattle.hv_grammar.proofs.ArrivingStatements.{declarator_begins}
+use Rattle.hv_grammar.proofs.SoundInitializers.{DeclaredAt, declared_read, inits_with}
 use Rattle.hv_grammar.proofs.SoundExpressions.{Wanting, pushed_read, operand_read}
 use Rattle.hv_grammar.proofs.SoundSpecifiers.{specifier_read}
 
@@ -247,6 +253,98 @@ group_mode {m} {n} {x} {p} {q} {ps} {st} {ws} {us} h = go m h.host h.stacked h.r
       → EndedAt n x (Group n p ps q ∷ st) ws us
   go _ host_group s r = record { from = _; host = host_group; stacked = s; reads = r }
 
+declaring_mode : {m : Mode} {x : MayDeclarator} {p : Place} {xs : Specifiers}
+    {ds : InitDeclarators} {st : List Frame} {ws us : List Marked}
+    → EndedAt m x (Declaring p xs ds ∷ st) ws us → EndedAt only_named x (Declaring p xs ds ∷ st) ws us
+declaring_mode {m} {x} {p} {xs} {ds} {st} {ws} {us} h = go m h.host h.stacked h.reads where
+  go : (m : Mode) {from : List Marked} → Hosts m (Declaring p xs ds ∷ st)
+      → Stacked (Declaring p xs ds ∷ st) ws from
+      → MayRead m (within st) (depth st) from us x
+      → EndedAt only_named x (Declaring p xs ds ∷ st) ws us
+  go _ host_declaration s r = record { from = _; host = host_declaration; stacked = s; reads = r }
+
+-- after a declarator of a declaration
+declaring_comma : {p : Place} {xs : Specifiers} {ds : InitDeclarators} {x : Declarator}
+    {st : List Frame} {ws from us : List Marked} (q : Place)
+    → Stacked (Declaring p xs ds ∷ st) ws from
+    → MayRead only_named (within st) (depth st) from (loose (depth st) q comma_sign ∷ us)
+    (some_declarator x)
+    → PointingAt only_named p no_pointers
+    (Declaring p xs (then_init_declarator ds (bare (declarator_place x) x)) ∷ st) ws us
+declaring_comma q (more s f in_element (b_declaring k l g)) y = record {
+  from = _;
+  host = host_declaration;
+  stacked =
+      more s f in_element (b_declaring k l
+      (inits_read q (inits_with g (r_bare (declarator_begins (named_only y)) (named_only y)))));
+  pointers = r_no_pointers;
+  first = λ z b. b;
+}
+
+declaring_equal : {p : Place} {xs : Specifiers} {ds : InitDeclarators} {x : Declarator}
+    {st : List Frame} {ws from us : List Marked} (q : Place)
+    → Stacked (Declaring p xs ds ∷ st) ws from
+    → MayRead only_named (within st) (depth st) from (loose (depth st) q equal_sign ∷ us)
+    (some_declarator x) → InitialAt (Initialized x ∷ Declaring p xs ds ∷ st) ws us
+declaring_equal q (more s f in_element (b_declaring k l g)) y = record {
+  host = in_declaration;
+  stacked =
+      more (more s f in_element (b_declaring k l g)) (omega arith) is_declaring
+      (b_initialized q (named_only y));
+}
+
+declaring_semicolon : {p : Place} {xs : Specifiers} {ds : InitDeclarators} {x : Declarator}
+    {st : List Frame} {ws from us : List Marked} (q : Place)
+    → Stacked (Declaring p xs ds ∷ st) ws from
+    → MayRead only_named (within st) (depth st) from (loose 0 q semicolon ∷ us) (some_declarator x)
+    → DeclaredAt st p xs (then_init_declarator ds (bare (declarator_place x) x)) ws us
+declaring_semicolon q (more s f in_element (b_declaring k l g)) y =
+    record {
+      from = _;
+      stacked = s;
+      reads =
+          r_declaration q k l
+          (inits_with g (r_bare (declarator_begins (named_only y)) (named_only y)));
+    }
+
+after_init_read : (stack : List Frame) (p : Place) (xs : Specifiers) (ds : InitDeclarators)
+    (x : Declarator) (q : Place) (s : Punct)
+    → Leads (Ending only_named (some_declarator x) (Declaring p xs ds ∷ stack)) q (sign s)
+    (after_init (Declaring p xs ds ∷ stack) x s)
+after_init_read stack p xs ds x q puncts.Comma =
+    once (λ ws us h. declaring_comma q h.stacked h.reads)
+after_init_read stack p xs ds x q puncts.Equal =
+    once (λ ws us h. declaring_equal q h.stacked h.reads)
+after_init_read stack p xs ds x q puncts.Semicolon =
+    declared_read (Ending only_named (some_declarator x) (Declaring p xs ds ∷ stack)) stack p xs
+    (then_init_declarator ds (bare (declarator_place x) x)) q
+    (λ ws us h. declaring_semicolon q h.stacked h.reads)
+after_init_read stack p xs ds x q s = tt
+
+-- `{` after the declarator of a function definition
+function_awaits : {p : Place} {xs : Specifiers} {x : Declarator} {ts us ms : List Marked}
+    → BeginsAt p ts → ReadsSpecifiers outside 0 all_words ts us xs
+    → (q : Place) → ReadsDeclarator outside 0 with_name us (loose 0 q left_brace ∷ ms) x
+    → (vs : List Marked) → Terminals (the_hole ∷ the_right_brace ∷ []) ms vs
+    → ReadsElement External ts vs (hollow_function p xs x q 0)
+function_awaits k l q r _ (a_terminal h (a_terminal y no_terminal)) =
+    r_function_definition q h y k l r
+
+body_read : (stack : List Frame) (m : Mode) (x : Declarator) (q : Place)
+    → Leads (Ending m (some_declarator x) stack) q left_brace (body_at stack x q)
+body_read (Declaring p xs no_init_declarators ∷ Declares External alone ∷ []) m x q =
+    once (λ ws us h. go m h.host h.stacked h.reads) where
+      go : (m : Mode) {ws from us : List Marked}
+          → Hosts m (Declaring p xs no_init_declarators ∷ Declares External alone ∷ [])
+          → Stacked (Declaring p xs no_init_declarators ∷ Declares External alone ∷ []) ws from
+          → MayRead m outside 0 from (loose 0 q left_brace ∷ us) (some_declarator x)
+          → Awaits External (the_hole ∷ the_right_brace ∷ []) (hollow_function p xs x q 0) ws us
+      go _ host_declaration (more (more empty _ _ (b_declares (from_start z))) _ _
+          (b_declaring k l no_init_yet)) y = λ vs t. function_awaits k l q (named_only y) vs t
+      go _ host_declaration (more (more empty _ _ (b_declares (from_start z))) _ _
+          (b_declaring k l (inits_read _ g))) y = elim g [ ]
+body_read _ m x q = tt
+
 -- a sign after a declarator, or after nothing
 pub ended_read : (stack : List Frame) (m : Mode) (x : MayDeclarator) (q : Place) (s : Punct)
     → Leads (Ending m x stack) q (sign s) (ended stack x s)
@@ -266,6 +364,11 @@ ended_read (Group n p ps b ∷ st) m (some_declarator x) q s =
     (Ending n (some_declarator x) (Group n p ps b ∷ st)) q (sign s)
     (after_group (Group n p ps b ∷ st) x s) (λ y r d ws us h. group_mode h)
     (after_group_read st n p ps b x q s)
+ended_read (Declaring p xs ds ∷ st) m (some_declarator x) q s =
+    leads_by (Ending m (some_declarator x) (Declaring p xs ds ∷ st))
+    (Ending only_named (some_declarator x) (Declaring p xs ds ∷ st)) q (sign s)
+    (after_init (Declaring p xs ds ∷ st) x s) (λ y r d ws us h. declaring_mode h)
+    (after_init_read st p xs ds x q s)
 ended_read _ m x q s = tt
 
 ------ before the middle
@@ -532,13 +635,13 @@ abbrev Whole : Mode → Place → Pointers → Core → Suffixes → List Frame 
     → List Marked → Type 0
 Whole m p ps c ss stack x ws us = WholeAt m p ps c ss stack ws us
 
-direct_end : (m : Mode) (p : Place) (ps : Pointers) (c : Core) (ss : Suffixes) (stack : List Frame)
-    (q : Place) (s : Punct)
-    → Leads (Whole m p ps c ss stack) q (sign s)
-    (ended stack (some_declarator (declarator p ps c ss)) s)
-direct_end m p ps c ss stack q s =
+direct_ends_by : (m : Mode) (p : Place) (ps : Pointers) (c : Core) (ss : Suffixes)
+    (stack : List Frame) (q : Place) (s : Symbol) (o : Option Taken)
+    → Leads (Ending m (some_declarator (declarator p ps c ss)) stack) q s o
+    → Leads (Whole m p ps c ss stack) q s o
+direct_ends_by m p ps c ss stack q s o g =
     leads_by (Whole m p ps c ss stack) (Ending m (some_declarator (declarator p ps c ss)) stack) q
-    (sign s) (ended stack (some_declarator (declarator p ps c ss)) s)
+    s o
     (λ x r d ws us h. record {
       from = h.middle.from;
       host = h.middle.host;
@@ -547,7 +650,16 @@ direct_end m p ps c ss stack q s =
           m_some h.middle.direct.naming h.middle.direct.suits
           (r_declarator h.middle.direct.begins h.middle.direct.pointers h.middle.direct.direct
           h.part);
-    }) (ended_read stack m (some_declarator (declarator p ps c ss)) q s)
+    }) g
+
+direct_end : (m : Mode) (p : Place) (ps : Pointers) (c : Core) (ss : Suffixes) (stack : List Frame)
+    (q : Place) (s : Punct)
+    → Leads (Whole m p ps c ss stack) q (sign s)
+    (ended stack (some_declarator (declarator p ps c ss)) s)
+direct_end m p ps c ss stack q s =
+    direct_ends_by m p ps c ss stack q (sign s)
+    (ended stack (some_declarator (declarator p ps c ss)) s)
+    (ended_read stack m (some_declarator (declarator p ps c ss)) q s)
 
 direct_sign_read : (m : Mode) (p : Place) (ps : Pointers) (c : Core) (ss : Suffixes)
     (stack : List Frame) (q : Place) (s : Punct)
@@ -555,6 +667,9 @@ direct_sign_read : (m : Mode) (p : Place) (ps : Pointers) (c : Core) (ss : Suffi
 direct_sign_read m p ps c ss stack q puncts.LeftBracket =
     once (λ ws us h. record { after = us; middle = h.middle; qualifiers = r_no_qualifiers })
 direct_sign_read m p ps c ss stack q puncts.LeftParenthesis = once (λ ws us h. h.middle)
+direct_sign_read m p ps c ss stack q puncts.LeftBrace =
+    direct_ends_by m p ps c ss stack q left_brace (body_at stack (declarator p ps c ss) q)
+    (body_read stack m (declarator p ps c ss) q)
 direct_sign_read m p ps c ss stack q s = direct_end m p ps c ss stack q s
 
 pub direct_read : (m : Mode) (p : Place) (ps : Pointers) (c : Core) (ss : Suffixes)

@@ -16,12 +16,15 @@ use Rattle.hv_ctree.specs.declared.tree.words.Step.TheVariants.{Increment, Decre
 use Rattle.hv_ctree.specs.declared.tree.words.UnaryOperator.{UnaryOperator}
 use Rattle.hv_ctree.specs.declared.tree.words.UnaryOperator.TheVariants.{Address, Indirection, Plus, Minus, Complement, Not}
 use Rattle.hv_ctree.specs.tree.Expressions.{Expr, parenthesized, subscript, call, postfix, no_arguments, then_argument, then_specifier, MayTag, Enumerators, then_enumerator, Enumerator, valued, Specifier, of_type, enumeration, listed, then_suffix, sized, place_of}
-use Rattle.hv_grammar.specs.Symbols.{Symbol, keyword, name, number, text, sign, Role, Marked, at, quiet, counted, left_paren, right_paren, left_bracket, right_bracket, right_brace, comma_sign, colon, binary_sign, unary_sign, assignment_sign, selector_sign, step_sign}
+use Rattle.hv_ctree.specs.tree.Statements.{of_index, value}
+use Rattle.hv_grammar.specs.Elements.{loose, r_value}
+use Rattle.hv_grammar.specs.Symbols.{Symbol, keyword, name, number, text, sign, Role, Marked, at, quiet, counted, left_paren, right_paren, left_bracket, right_bracket, right_brace, comma_sign, colon, semicolon, binary_sign, unary_sign, assignment_sign, selector_sign, step_sign}
 use Rattle.hv_grammar.specs.Expressions.{braced, stars, has_type, ReadsSpecifier, Reads, r_identifier, r_constant, r_string, r_parenthesized, r_subscript, r_call_none, r_call, r_member, r_postfix, r_prefix, r_unary, r_sizeof, r_cast, r_binary, r_conditional, r_assign, r_comma, r_argument, r_arguments, r_type, r_enumeration, r_listed, ReadsEnumerators, r_enumerator, r_enumerators, ReadsEnumerator, r_valued, r_no_comma, r_suffix, r_sized}
-use Rattle.hv_grammar.specs.machine.Frames.{Frame, Parenthesis, Subscript, Callee, Calling, Prefix, Unary, Sizeof, Cast, Binary, Then, Else, Assign, Comma, Specified, Listing, Valued, Length, hole, hole_of, made, weigh, depth, within, completes, plug, At, Have, Selecting, Infix, by_operator, by_assignment, by_question, by_comma, by_bracket, by_parenthesis, left, reach, makes, begun, weigh_at}
-use Rattle.hv_grammar.specs.machine.Steps.{state, want, have, Taken, loud, Reduced, reduced, reduce, operand_at, want_sign, want_keyword, paren_at, pushed, close_call, infix_at, infix_of_level, goes_on, argument_at, comma_at, close_at, bracket_at, brace_at, colon_at, after, after_postfix, have_sign, step_have, step_selecting, specified, end_at, finished_at}
+use Rattle.hv_grammar.specs.machine.Frames.{Frame, Parenthesis, Subscript, Callee, Calling, Prefix, Unary, Sizeof, Cast, Binary, Then, Else, Assign, Comma, Specified, Listing, Valued, Length, Index, Designated, Initialized, Statement, hole, hole_of, made, weigh, depth, within, completes, plug, At, Have, Selecting, Infix, by_operator, by_assignment, by_question, by_comma, by_bracket, by_parenthesis, left, reach, makes, begun, weigh_at}
+use Rattle.hv_grammar.specs.machine.Steps.{state, want, have, Taken, loud, Reduced, reduced, reduce, operand_at, want_sign, want_keyword, paren_at, pushed, close_call, infix_at, infix_of_level, goes_on, argument_at, comma_at, close_at, bracket_at, brace_at, colon_at, semicolon_at, value_at, after, after_postfix, have_sign, step_have, step_selecting, specified, end_at, finished_at}
 use Rattle.hv_grammar.proofs.Arriving.{level-most}
-use Rattle.hv_grammar.proofs.Reached.{Inside, EnumeratorsFrom, no_enumerator_yet, enumerators_read, Began, b_parenthesis, b_subscript, b_callee, b_calling, b_prefix, b_unary, b_sizeof, b_cast, b_binary, b_then, b_else, b_assign, b_comma, b_specified, b_listing, b_valued, b_length, Stacked, empty, more, Holds, Wants, w_plainly, w_counts, w_quietly, Selects, WholeAt, EnumeratorAt, is_listing, WordsAt, words_of, ReadAt, Leads, once, leads_by, branches, lowered, one_more, TypeAt, part_suffix}
+use Rattle.hv_grammar.proofs.SoundInitializers.{Initializing, initialized_read, part_read}
+use Rattle.hv_grammar.proofs.Reached.{Inside, EnumeratorsFrom, no_enumerator_yet, enumerators_read, Began, b_parenthesis, b_subscript, b_callee, b_calling, b_prefix, b_unary, b_sizeof, b_cast, b_binary, b_then, b_else, b_assign, b_comma, b_specified, b_listing, b_valued, b_length, b_index, DesignatorAt, index_read, Stacked, empty, more, Holds, Wants, w_plainly, w_counts, w_quietly, Selects, WholeAt, EnumeratorAt, is_listing, WordsAt, words_of, ReadAt, Leads, once, leads_by, branches, lowered, one_more, TypeAt, part_suffix}
 
 abbrev pub Wanting : List Frame → Bool → List Marked → List Marked → Type 0
 Wanting stack x ws us = Wants stack ws us
@@ -262,6 +265,18 @@ pub enumerated : {r : Role} {d : ℕ} {ts us vs : List Marked} {es : Enumerators
 enumerated no_enumerator_yet h = r_enumerator h
 enumerated (enumerators_read q g) h = r_enumerators q g h
 
+-- an expression that is an initialiser
+value_read : (stack : List Frame) (l : ℕ) (b : Expr) (p : Place) (s : Punct)
+    → 1 ≤ hole_of stack → Leads (Having l stack b) p (sign s) (value_at stack b s)
+value_read stack l b p s le =
+    leads_by (Having l stack b) (Initializing (value (place_of b) b) stack) p (sign s)
+    (value_at stack b s)
+    (λ x r d ws us h. record {
+      from = h.from;
+      stacked = h.stacked;
+      reads = r_value (lowered 1 l (let f = h.fits in omega arith) h.reads);
+    }) (initialized_read stack (value (place_of b) b) p s)
+
 argument_read : (stack : List Frame) (l : ℕ) (b : Expr) (p : Place)
     → Leads (Having l stack b) p comma_sign (argument_at stack b)
 argument_read (Callee a ∷ stack) l b p =
@@ -294,6 +309,10 @@ argument_read (Valued q n ∷ Listing y t es ∷ stack) l b p =
                 more s f i (b_listing z tag
                 (enumerators_read p (enumerated es (r_valued q w n (lowered 2 l le m)))));
           }
+argument_read (Designated g ∷ stack) l b p =
+    value_read (Designated g ∷ stack) l b p puncts.Comma (omega arith)
+argument_read (Initialized x ∷ stack) l b p =
+    value_read (Initialized x ∷ stack) l b p puncts.Comma (omega arith)
 argument_read _ l b p = tt
 
 close_read : (stack : List Frame) (l : ℕ) (b : Expr) (p : Place)
@@ -316,6 +335,7 @@ close_read (Calling a xs ∷ stack) l b p = once (λ ws us h. last h.fits h.stac
       → Holds 15 stack (call (place_of a) a (then_argument xs b)) ws us
   last le (more s fit _ (b_calling q c r rs)) n =
       have_read fit s (r_call q p r (r_arguments c rs (lowered 1 l le n)))
+close_read (Statement s c ∷ []) l b p = part_read s c l b p right_paren
 close_read _ l b p = tt
 
 bracket_read : (stack : List Frame) (l : ℕ) (b : Expr) (p : Place)
@@ -348,6 +368,12 @@ bracket_read (Length m w ps c ss q qs ∷ stack) l b p =
           };
         };
       }
+bracket_read (Index q ∷ stack) l b p = once (λ ws us h. inner h.fits h.stacked h.reads) where
+  inner : {ws from us : List Marked} → 2 ≤ l → Stacked (Index q ∷ stack) ws from
+      → Reads (suc (depth stack)) l from (loose (suc (depth stack)) p right_bracket ∷ us) b
+      → DesignatorAt (of_index q b) stack ws us
+  inner le (more s _ i (b_index _)) n =
+      record { from = _; braces = i; stacked = s; reads = index_read q p (lowered 2 l le n) }
 bracket_read _ l b p = tt
 
 ------ after type specifiers with braces
@@ -394,6 +420,8 @@ brace_read (Valued q n ∷ Listing y t es ∷ stack) l b p =
           (enumeration y (listed y t (then_enumerator es (valued q n b)) false))) stack ws us
       go le (more s _ _ (b_valued w)) m =
           listed_whole y (valued q n b) p s (r_valued q w n (lowered 2 l le m))
+brace_read (Designated g ∷ stack) l b p =
+    value_read (Designated g ∷ stack) l b p puncts.RightBrace (omega arith)
 brace_read _ l b p = tt
 
 ------ the signs after an operand
@@ -407,7 +435,15 @@ colon_read (Then a ∷ stack) l b p =
           → Wants (Else a b ∷ stack) ws us
       inner le (more s fit _ (b_then q r)) n =
           pushed_read (Else a b) stack (omega arith) fit tt s (b_else q p r (lowered 0 l le n))
+colon_read (Statement s c ∷ []) l b p = part_read s c l b p colon
 colon_read _ l b p = tt
+
+semicolon_read : (stack : List Frame) (l : ℕ) (b : Expr) (p : Place)
+    → Leads (Having l stack b) p semicolon (semicolon_at stack b)
+semicolon_read (Initialized x ∷ stack) l b p =
+    value_read (Initialized x ∷ stack) l b p puncts.Semicolon (omega arith)
+semicolon_read (Statement s c ∷ []) l b p = part_read s c l b p semicolon
+semicolon_read _ l b p = tt
 
 postfix_read : (k : ℕ) (stack : List Frame) (a : Expr) (p : Place) (s : Symbol) (o : Option Taken)
     → (15 ≤ k → Leads (Having k stack a) p s o)
@@ -473,6 +509,10 @@ have_sign_read stack k a p puncts.Colon =
     reducing (after colon_at (reduce 0 stack k a)) stack 0 k a p colon
     (colon_read (reduce 0 stack k a).stack (reduce 0 stack k a).level (reduce 0 stack k a).operand
     p)
+have_sign_read stack k a p puncts.Semicolon =
+    reducing (after semicolon_at (reduce 0 stack k a)) stack 0 k a p semicolon
+    (semicolon_read (reduce 0 stack k a).stack (reduce 0 stack k a).level
+    (reduce 0 stack k a).operand p)
 have_sign_read stack k a p puncts.Dot = selects_read k stack a p Dot
 have_sign_read stack k a p puncts.Arrow = selects_read k stack a p Arrow
 have_sign_read stack k a p puncts.PlusPlus = steps_read k stack a p Increment

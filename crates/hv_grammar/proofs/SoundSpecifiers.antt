@@ -9,7 +9,7 @@ use Rattle.hv_ctree.specs.declared.tree.words.TypeQualifier.TheVariants.{Const, 
 use Rattle.hv_ctree.specs.tree.Expressions.{Specifiers, then_specifier, Specifier, storage, of_type, qualifier, inline, word, typedef_name, TypeWord, void_word, char_word, short_word, int_word, long_word, signed_word, unsigned_word, bool_word}
 use Rattle.hv_grammar.specs.Symbols.{Symbol, keyword, marked, Role, Marked, at, storage_word, type_word}
 use Rattle.hv_grammar.specs.Expressions.{has_type, ReadsSpecifier, r_storage, r_inline, r_qualifier, r_type, r_word, r_typedef_name}
-use Rattle.hv_grammar.specs.machine.Frames.{Owner, of_type_name, of_parameter, of_member, Frame, depth, within, Words}
+use Rattle.hv_grammar.specs.machine.Frames.{Owner, of_type_name, of_parameter, of_member, of_declaration, Frame, depth, within, Words}
 use Rattle.hv_grammar.specs.machine.Steps.{state, Taken, plainly, may_stand, worded, marked_word, keyword_word, specifier_at}
 use Rattle.hv_grammar.proofs.Reached.{words_of, is_specified, b_specified, more, Specs, Leads, once, branches, fits_most, one_more}
 
@@ -27,12 +27,14 @@ From B o p xs stack q s = (r : Role) (d : ℕ) (ws us : List Marked) → B false
 storage_stands : (o : Owner) (q : Place) (c : StorageClass) → may_stand o (storage q c) ≡ true
     → Stands o q (storage_word c) (storage q c)
 storage_stands of_parameter q c e r d b ts = r_storage q c
+storage_stands of_declaration q c e r d b ts = r_storage q c
 storage_stands of_type_name q c e r d b ts = cc
 storage_stands of_member q c e r d b ts = cc
 
 inline_stands : (o : Owner) (q : Place) → may_stand o (inline q) ≡ true
     → Stands o q (keyword keywords.Inline) (inline q)
 inline_stands of_parameter q e r d b ts = r_inline q
+inline_stands of_declaration q e r d b ts = r_inline q
 inline_stands of_type_name q e r d b ts = cc
 inline_stands of_member q e r d b ts = cc
 

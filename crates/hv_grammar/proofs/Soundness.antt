@@ -11,12 +11,13 @@ use Rattle.hv_ctree.specs.declared.tree.words.StructOrUnion.{StructOrUnion}
 use Rattle.hv_ctree.specs.tree.Expressions.{Expr, Specifiers, no_specifiers, then_specifier, Specifier, of_type, compound, enumeration, defined, mentioned, MayTag, no_members, then_member, no_declarators, listed, listed_before, no_enumerators, then_enumerator, plain, no_pointers}
 use Rattle.hv_grammar.specs.Symbols.{Symbol, keyword, name, sign, Role, inside, operator, Marked, at, left_brace, right_brace, comma_sign, compound_word, at_first}
 use Rattle.hv_grammar.specs.Expressions.{Reads, braced, r_type, r_compound, r_enumeration, r_defined, r_mentioned, ReadsTag, r_no_tag, r_tag, r_listed, r_listed_before, r_plain, r_last_comma, has_type, ReadsSpecifier, r_no_pointers}
-use Rattle.hv_grammar.specs.machine.Frames.{Owner, of_type_name, of_parameter, of_member, only_named, only_abstract, either, Frame, Parenthesis, AfterSizeof, Sizeof, SizeofType, CastType, Specified, Body, Listing, Owned, OwnedMembers, hole_of, depth, within, At, Want, Have, Selecting, Words, AfterCompound, AfterTag, AfterEnum, AfterEnumTag, MemberStart, EnumeratorStart, AfterEnumerator, Pointing, Opened, Direct, Bracket, ParametersStart, ParameterNext, AfterEllipsis, State}
+use Rattle.hv_grammar.specs.machine.Frames.{Owner, of_type_name, of_parameter, of_member, of_declaration, only_named, only_abstract, either, Frame, Parenthesis, AfterSizeof, Sizeof, SizeofType, CastType, Specified, Body, Listing, Owned, OwnedMembers, hole_of, depth, within, At, Want, Have, Selecting, Words, AfterCompound, AfterTag, AfterEnum, AfterEnumTag, MemberStart, EnumeratorStart, AfterEnumerator, Pointing, Opened, Direct, Bracket, ParametersStart, ParameterNext, AfterEllipsis, InitializerStart, BracesStart, AfterDot, AfterDesignator, AfterInitializer, AtSpot, State}
 use Rattle.hv_grammar.specs.machine.Steps.{want, Taken, lately, operand_at, cast_at, first_word, step_want, words_ended, step_words, step_pointing, ended_word, step_compound, step_tag, body_ended, step_member, step_enum, step_enum_tag, listing_ended, step_enumerator, enumerator_named, step_enumerator_name, step_at, finished}
 use Rattle.hv_grammar.specs.machine.Moves.{Takes, taken, taken_to_count, Moves, stays, takes}
 use Rattle.hv_grammar.proofs.Reached.{is_sized, words_of, in_cast, in_sizeof, in_body, host_type, host_parameter, host_members, is_listing, none_yet, no_member_yet, members_read, no_enumerator_yet, enumerators_read, no_declarator_yet, b_parenthesis, b_sizeof, b_sizeof_type, b_cast_type, b_specified, b_body, b_listing, b_valued, b_owned, b_members, Stacked, empty, more, Wants, WantsAt, w_plainly, w_counts, w_quietly, WordsAt, Specs, Follows, MemberAt, EnumeratorAt, ReadAt, ReadState, Led, Leads, once, leads_by, branches, fits_most, one_more, specs_of, TypeAt}
 use Rattle.hv_grammar.proofs.SoundExpressions.{Wanting, operand_read, having_read, selecting_read, specified_read, enumerated, listed_whole, finished_read}
 use Rattle.hv_grammar.proofs.SoundSpecifiers.{specifier_read}
+use Rattle.hv_grammar.proofs.SoundStatements.{initializer_read, braces_read, dot_read, designator_read, after_initializer_read, declaration_words_read, spot_read}
 use Rattle.hv_grammar.proofs.SoundDeclarators.{Pointed, pointing_read, opened_read, direct_read, bracket_read, parameters_start_read, next_read, after_ellipsis_read}
 
 ------ before an operand
@@ -167,6 +168,7 @@ words_ended_read of_member p xs stack q s =
       first = λ z b. b;
     })
     (pointing_read only_named q no_pointers (OwnedMembers p xs no_declarators ∷ stack) q s)
+words_ended_read of_declaration p xs stack q s = declaration_words_read p xs stack q s
 
 words_read : (o : Owner) (p : Place) (xs : Specifiers) (stack : List Frame) (q : Place) (s : Symbol)
     → Leads (Worded o p xs stack) q s (step_words o p xs stack q s)
@@ -405,6 +407,12 @@ step_at_read stack (ParametersStart m p ps c ss b) q s =
     parameters_start_read m p ps c ss b stack q s
 step_at_read stack ParameterNext q s = next_read stack q s
 step_at_read stack AfterEllipsis q s = after_ellipsis_read stack q s
+step_at_read stack InitializerStart q s = initializer_read stack q s
+step_at_read stack BracesStart q s = braces_read stack q s
+step_at_read stack (AfterDot p) q s = dot_read p stack q s
+step_at_read stack (AfterDesignator g) q s = designator_read g stack q s
+step_at_read stack (AfterInitializer x) q s = after_initializer_read stack x q s
+step_at_read stack (AtSpot x y) q s = spot_read x y q s
 
 -- a token at which no statement is open
 plain_token : (B : List Marked → Type 0) (t : Marked) (us : List Marked) → t.statements ≡ 0

@@ -5,19 +5,19 @@ use Rattle.std.proofs.lemmas.List.{append-nil, length-append}
 use Rattle.std.proofs.lemmas.Bool.Decides.{nat_tests}
 use Rattle.std.specs.Prelude.{nat_le}
 use Rattle.hv_base.specs.declared.why.Why.TheVariants.{Syntax, TooDeep}
-use Rattle.hv_ctree.specs.tree.Expressions.{Expr}
 use Rattle.hv_grammar.specs.Symbols.{Token, Role, inside, operator, Marked}
 use Rattle.hv_grammar.specs.Refusal.{Limits, operators_with, KeepsLimits, Derives, Begins, BeginsWithin, Refuses, wrong, deep, early}
-use Rattle.hv_grammar.specs.Grammar.{WholeExpression, DerivesExpression}
-use Rattle.hv_grammar.specs.Laws.{Says}
+use Rattle.hv_ctree.specs.tree.Expressions.{Expr}
+use Rattle.hv_ctree.specs.tree.Statements.{Skeleton}
+use Rattle.hv_grammar.specs.Elements.{Standing, ReadsElement}
+use Rattle.hv_grammar.specs.Grammar.{DerivesExpression, DerivesElement}
+use Rattle.hv_grammar.specs.Laws.{Says, SaysOfElement}
 use Rattle.hv_grammar.specs.machine.Frames.{State}
-use Rattle.hv_grammar.specs.machine.Steps.{Taken, want, step, finished}
+use Rattle.hv_grammar.specs.machine.Steps.{Taken, step, begin, finished_element}
 use Rattle.hv_grammar.specs.machine.Moves.{Takes, taken, taken_to_count, Moves, stays, takes}
-use Rattle.hv_grammar.specs.machine.Answers.{Answer, Accepted, Refused, operators_before, operators_after, keeps, at_end, answer}
-use Rattle.hv_grammar.proofs.Completion.{Ends, ends}
-use Rattle.hv_grammar.proofs.OneTree.{Completes, complete}
-use Rattle.hv_grammar.proofs.Pending.{is_pending, Steady, Steadily, steady}
-use Rattle.hv_grammar.proofs.Soundness.{sound, moves_read, start_read}
+use Rattle.hv_grammar.specs.machine.Answers.{AnswerOf, Accepted, Refused, operators_before, operators_after, keeps, at_end, answers}
+use Rattle.hv_grammar.proofs.Languages.{start_of, Tree, finish, ReadsAs, WholeOf, tree_of, reads_of, whole_by, not_pending, sound_of, Finishes, complete_of, EndsIn, ends_of}
+use Rattle.hv_grammar.proofs.Pending.{root, is_pending, Steady, Steadily, steady}
 
 abbrev pub token_of : Marked → Token
 token_of t = t.token
@@ -218,39 +218,41 @@ keeps_so l n k h =
 ------ what stands before the machine
 
 -- the machine comes so from the first tokens; n of them count
-pub record Based (l : Limits) (m : State) (x : Bool) (n : ℕ) (before : List Token) : Type 0 where
+pub record Based (kind : Option Standing) (l : Limits) (m : State) (x : Bool) (n : ℕ) (before : List Token) : Type 0 where
   pub done : List Marked
   pub tokens : tokens_of done ≡ before
-  pub moves : Moves (want []) false done m x []
+  pub moves : Moves (start_of kind) false done m x []
   pub counts : count 0 done ≡ n
   pub limits : n ≤ l.operators → KeepsLimits l 0 done
 
 -- the machine stands after the first tokens; where a `(` is pending, n is without it
-pub record Stand (l : Limits) (m : State) (n : ℕ) (before : List Token) : Type 0 where
-  pub base : Based l m false n before
+pub record Stand (kind : Option Standing) (l : Limits) (m : State) (n : ℕ) (before : List Token) : Type 0 where
+  pub base : Based kind l m false n before
   pub few : n ≤ l.operators
-  pub pending : is_pending m ≡ true → Based l m true (suc n) before
+  pub pending : is_pending m ≡ true → Based kind l m true (suc n) before
 
-pub start : (l : Limits) → Stand l (want []) 0 []
-start l = record {
+pub start : (kind : Option Standing) (l : Limits) → Stand kind l (start_of kind) 0 []
+start kind l = record {
   base = record { done = []; tokens = refl; moves = stays; counts = refl; limits = λ f. tt };
   few = omega arith;
-  pending = λ e. cc;
+  pending = λ e. let no = not_pending kind in cc;
 }
 
-steady_step : (m : State) (t : Token) (k : Taken) → step m t ≡ Some k → Steady (is_pending m) k
+steady_step : (m : State) (t : Token) (k : Taken) → step m t ≡ Some k
+    → Steady (is_pending m) (root m) k
 steady_step m t k e =
-    subst (λ (o : Option Taken). Steadily (is_pending m) o) e (steady m.stack m.at t.place t.symbol)
+    subst (λ (o : Option Taken). Steadily (is_pending m) (root m) o) e
+    (steady m.stack m.at t.place t.symbol)
 
 -- the way to the state that the next token wants
-pub based_for : {l : Limits} {m : State} {n : ℕ} {before : List Token} (t : Token) (k : Taken)
-    → Stand l m n before → step m t ≡ Some k
-    → Based l m k.late (operators_before n k.late) before
-based_for {l} {m} {n} {before} t k s e = pick (is_pending m) k.late refl refl where
-  h : Steady (is_pending m) k
+pub based_for : {kind : Option Standing} {l : Limits} {m : State} {n : ℕ} {before : List Token} (t : Token) (k : Taken)
+    → Stand kind l m n before → step m t ≡ Some k
+    → Based kind l m k.late (operators_before n k.late) before
+based_for {kind} {l} {m} {n} {before} t k s e = pick (is_pending m) k.late refl refl where
+  h : Steady (is_pending m) (root m) k
   h = steady_step m t k e
 
-  pick : (b c : Bool) → is_pending m ≡ b → k.late ≡ c → Based l m c (operators_before n c) before
+  pick : (b c : Bool) → is_pending m ≡ b → k.late ≡ c → Based kind l m c (operators_before n c) before
   pick b false p q = s.base
   pick true true p q = s.pending p
   pick false true p q = let late : k.late ≡ false = h.late p in cc
@@ -259,10 +261,10 @@ pub one_token : (done : List Marked) (t : Marked) {before : List Token} → toke
     → tokens_of (done ++ t ∷ []) ≡ before ++ t.token ∷ []
 one_token done t e = tokens_more done (t ∷ []) ∙ ap (λ (ts : List Token). ts ++ t.token ∷ []) e
 
-based_next : {l : Limits} {m n : State} {x y : Bool} {i : ℕ} {before : List Token} (t : Marked)
-    → Based l m x i before → Takes m x t n y → i ≤ l.operators
+based_next : {kind : Option Standing} {l : Limits} {m n : State} {x y : Bool} {i : ℕ} {before : List Token} (t : Marked)
+    → Based kind l m x i before → Takes m x t n y → i ≤ l.operators
     → t.depth ≤ l.brackets → t.statements ≤ l.statements
-    → Based l n y (operators_with i t.role) (before ++ t.token ∷ [])
+    → Based kind l n y (operators_with i t.role) (before ++ t.token ∷ [])
 based_next {l} {i = i} t b e few shallow flat = record {
   done = b.done ++ t ∷ [];
   tokens = one_token b.done t b.tokens;
@@ -290,86 +292,86 @@ counting {m} t k e sized quiet =
     { state = k.state; depth = k.depth; role = inside; late = k.late; sized = b })) sized))
 
 -- the next token is taken
-pub stand_next : {l : Limits} {m : State} {n : ℕ} {before : List Token} (t : Token) (k : Taken)
-    → Stand l m n before → step m t ≡ Some k → Kept l n k
-    → Stand l k.state (operators_after n k) (before ++ t ∷ [])
-stand_next {l} {m} {n} {before} t k s e q = record {
+pub stand_next : {kind : Option Standing} {l : Limits} {m : State} {n : ℕ} {before : List Token} (t : Token) (k : Taken)
+    → Stand kind l m n before → step m t ≡ Some k → Kept l n k
+    → Stand kind l k.state (operators_after n k) (before ++ t ∷ [])
+stand_next {kind} {l} {m} {n} {before} t k s e q = record {
   base = based_next (marked_by k t false) (based_for t k s e) (quietly t k e) q.few q.shallow
       (omega arith);
   few = q.fewer;
   pending = λ p. counted (sym h.pending ∙ p);
 } where
-  h : Steady (is_pending m) k
+  h : Steady (is_pending m) (root m) k
   h = steady_step m t k e
 
-  counted : k.sized ≡ true → Based l k.state true (suc (operators_after n k)) (before ++ t ∷ [])
+  counted : k.sized ≡ true → Based kind l k.state true (suc (operators_after n k)) (before ++ t ∷ [])
   counted sized =
       let quiet : k.role ≡ inside = h.quiet sized in
       let same : operators_before n k.late ≡ operators_after n k =
       ap (λ (r : Role). operators_with (operators_before n k.late) r) (sym quiet) in
-      subst (λ (i : ℕ). Based l k.state true (suc i) (before ++ t ∷ [])) same
+      subst (λ (i : ℕ). Based kind l k.state true (suc i) (before ++ t ∷ [])) same
       (based_next (record { token = t; depth = k.depth; role = operator; statements = 0 })
       (based_for t k s e) (counting t k e sized quiet) q.few q.shallow (omega arith))
 
 ------ what can follow
 
-ended_by : {m : State} {done : List Marked} → Moves (want []) false done m false [] → Ends m false
-ended_by {m} {done} g = ends m done [] (moves_read done (start_read done) g)
+whole_of : (kind : Option Standing) {m : State} {done : List Marked}
+    → Moves (start_of kind) false done m false [] → (e : EndsIn kind m)
+    → WholeOf kind (done ++ e.rest)
+whole_of kind {done = done} g e =
+    whole_by kind (done ++ e.rest) e.tree (sound_of kind (appended g e.moves) e.is)
 
-whole_of : {m : State} {done : List Marked} → Moves (want []) false done m false []
-    → (e : Ends m false) → WholeExpression (done ++ e.rest)
-whole_of g e = record { tree = e.tree; reads = sound (appended g e.moves) e.is }
-
-pub begins_within : {l : Limits} {m : State} {n : ℕ} {before : List Token} → Stand l m n before
-    → BeginsWithin l token_of WholeExpression before
-begins_within s = record {
+pub begins_within : {kind : Option Standing} {l : Limits} {m : State} {n : ℕ} {before : List Token} → Stand kind l m n before
+    → BeginsWithin l token_of (WholeOf kind) before
+begins_within {kind} s = record {
   first = s.base.done;
-  rest = (ended_by s.base.moves).rest;
+  rest = (ends_of kind s.base.moves).rest;
   tokens = s.base.tokens;
-  whole = whole_of s.base.moves (ended_by s.base.moves);
+  whole = whole_of kind s.base.moves (ends_of kind s.base.moves);
   limits = s.base.limits s.few;
 }
 
-pub begins_from : {m : State} (done : List Marked) {before : List Token} → tokens_of done ≡ before
-    → Moves (want []) false done m false [] → Begins token_of WholeExpression before
-begins_from done e g =
-    record { first = done; rest = (ended_by g).rest; tokens = e; whole = whole_of g (ended_by g) }
+pub begins_from : (kind : Option Standing) {m : State} (done : List Marked) {before : List Token} → tokens_of done ≡ before
+    → Moves (start_of kind) false done m false [] → Begins token_of (WholeOf kind) before
+begins_from kind done e g =
+    record { first = done; rest = (ends_of kind g).rest; tokens = e; whole = whole_of kind g (ends_of kind g) }
 
 -- what an expression begins with, the machine takes
-record Came (first : List Marked) : Type 0 where
+record Came (kind : Option Standing) (first : List Marked) : Type 0 where
   there : State
   pending : Bool
-  moves : Moves (want []) false first there pending []
+  moves : Moves (start_of kind) false first there pending []
 
-came : (first rest : List Marked) → WholeExpression (first ++ rest) → Came first
-came first rest w = go (complete w.reads) where
-  go : Completes (first ++ rest) [] w.tree → Came first
+came : (kind : Option Standing) (first rest : List Marked) → WholeOf kind (first ++ rest)
+    → Came kind first
+came kind first rest w = go (complete_of kind (reads_of kind (first ++ rest) w)) where
+  go : Finishes kind (first ++ rest) [] (tree_of kind (first ++ rest) w) → Came kind first
   go h = let s = split_at first rest h.moves in
       record { there = s.there; pending = s.pending; moves = s.before }
 
 -- no expression begins with a token that the machine refuses
-pub refused : {l : Limits} {m : State} {n : ℕ} {before : List Token} (t : Token)
-    → Stand l m n before → step m t ≡ None → Begins token_of WholeExpression (before ++ t ∷ []) → ⊥
-refused {m = m} {before = before} t s e b =
-    let c = came b.first b.rest b.whole in
-    let some : reached (want []) (tokens_of b.first) ≡ Some c.there = reached_all c.moves in
-    let here : reached (want []) (tokens_of s.base.done ++ t ∷ []) ≡ reached m (t ∷ []) =
+pub refused : {kind : Option Standing} {l : Limits} {m : State} {n : ℕ} {before : List Token} (t : Token)
+    → Stand kind l m n before → step m t ≡ None → Begins token_of (WholeOf kind) (before ++ t ∷ []) → ⊥
+refused {kind} {m = m} {before = before} t s e b =
+    let c = came kind b.first b.rest b.whole in
+    let some : reached (start_of kind) (tokens_of b.first) ≡ Some c.there = reached_all c.moves in
+    let here : reached (start_of kind) (tokens_of s.base.done ++ t ∷ []) ≡ reached m (t ∷ []) =
     reached_run (t ∷ []) s.base.moves in
     let no : reached m (t ∷ []) ≡ None = rw (e, reached) refl in
-    let same : reached (want []) (tokens_of b.first)
-    ≡ reached (want []) (tokens_of s.base.done ++ t ∷ []) =
-    ap (reached (want [])) (b.tokens
+    let same : reached (start_of kind) (tokens_of b.first)
+    ≡ reached (start_of kind) (tokens_of s.base.done ++ t ∷ []) =
+    ap (reached (start_of kind)) (b.tokens
     ∙ ap (λ (ts : List Token). ts ++ t ∷ []) (sym s.base.tokens)) in
     cc
 
 -- the marks of what begins so are those of the machine
-same_first : {l : Limits} {m : State} {n : ℕ} {before : List Token} (t : Token) (k : Taken)
-    → step m t ≡ Some k → (s : Based l m k.late n before)
-    → (b : BeginsWithin l token_of WholeExpression (before ++ t ∷ [])) → (c : Came b.first)
+same_first : {kind : Option Standing} {l : Limits} {m : State} {n : ℕ} {before : List Token} (t : Token) (k : Taken)
+    → step m t ≡ Some k → (s : Based kind l m k.late n before)
+    → (b : BeginsWithin l token_of (WholeOf kind) (before ++ t ∷ [])) → (c : Came kind b.first)
     → b.first ≡ s.done ++ marked_by k t c.pending ∷ []
-same_first {m = m} t k e s b c =
+same_first {kind} {m = m} t k e s b c =
     sym (append-nil b.first) ∙ (sym (marks_run [] c.pending c.moves refl)
-    ∙ (ap (λ (ts : List Token). marks_of (want []) ts c.pending)
+    ∙ (ap (λ (ts : List Token). marks_of (start_of kind) ts c.pending)
     (append-nil (tokens_of b.first)
     ∙ (b.tokens ∙ ap (λ (ts : List Token). ts ++ t ∷ []) (sym s.tokens)))
     ∙ (marks_run (t ∷ []) c.pending s.moves (ap late_of e)
@@ -385,12 +387,12 @@ no_fewer n o k true q f g = go k.sized refl f where
   go false e h = h
   go true e h = subst (λ (r : Role). operators_with n r ≤ o) (sym (q e)) g
 
-pub too_deep : {l : Limits} {m : State} {n : ℕ} {before : List Token} (t : Token) (k : Taken)
-    → Stand l m n before → step m t ≡ Some k → keeps l n k ≡ false
-    → BeginsWithin l token_of WholeExpression (before ++ t ∷ []) → ⊥
-too_deep {l} {m} {n} {before} t k s e f b =
-    go (based_for t k s e) (came b.first b.rest b.whole) where
-      go : Based l m k.late (operators_before n k.late) before → Came b.first → ⊥
+pub too_deep : {kind : Option Standing} {l : Limits} {m : State} {n : ℕ} {before : List Token} (t : Token) (k : Taken)
+    → Stand kind l m n before → step m t ≡ Some k → keeps l n k ≡ false
+    → BeginsWithin l token_of (WholeOf kind) (before ++ t ∷ []) → ⊥
+too_deep {kind} {l} {m} {n} {before} t k s e f b =
+    go (based_for t k s e) (came kind b.first b.rest b.whole) where
+      go : Based kind l m k.late (operators_before n k.late) before → Came kind b.first → ⊥
       go d c =
           let all : KeepsLimits l 0 (d.done ++ marked_by k t c.pending ∷ []) =
           subst (λ (ts : List Marked). KeepsLimits l 0 ts) (same_first t k e d b c) b.limits in
@@ -410,61 +412,76 @@ too_deep {l} {m} {n} {before} t k s e f b =
           cc
 
 -- an end that the machine doesn't accept is too early
-too_early : {l : Limits} {m : State} {n : ℕ} {before : List Token} → Stand l m n before
-    → finished m ≡ None → Derives l token_of WholeExpression before → ⊥
-too_early {m = m} {before = before} s e d = go (complete d.whole.reads) where
-  go : Completes d.first [] d.whole.tree → ⊥
-  go h =
-      let there : reached (want []) (tokens_of d.first) ≡ Some h.there = reached_all h.moves in
-      let here : reached (want []) (tokens_of s.base.done) ≡ Some m = reached_all s.base.moves in
-      let same : reached (want []) (tokens_of d.first) ≡ reached (want []) (tokens_of s.base.done) =
-      ap (reached (want [])) (d.tokens ∙ sym s.base.tokens) in
-      let one : m ≡ h.there = cc in
-      let both : finished m ≡ finished h.there = ap finished one in
-      let is = h.ends in
-      cc
+too_early : {kind : Option Standing} {l : Limits} {m : State} {n : ℕ} {before : List Token} → Stand kind l m n before
+    → finish kind m ≡ None → Derives l token_of (WholeOf kind) before → ⊥
+too_early {kind} {m = m} {before = before} s e d =
+    go (complete_of kind (reads_of kind d.first d.whole)) where
+      go : Finishes kind d.first [] (tree_of kind d.first d.whole) → ⊥
+      go h =
+          let there : reached (start_of kind) (tokens_of d.first) ≡ Some h.there = reached_all h.moves in
+          let here : reached (start_of kind) (tokens_of s.base.done) ≡ Some m = reached_all s.base.moves in
+          let same : reached (start_of kind) (tokens_of d.first) ≡ reached (start_of kind) (tokens_of s.base.done) =
+          ap (reached (start_of kind)) (d.tokens ∙ sym s.base.tokens) in
+          let one : m ≡ h.there = cc in
+          let both : finish kind m ≡ finish kind h.there =
+          subst (λ (n : State). finish kind m ≡ finish kind n) one refl in
+          let is = h.ends in
+          cc
 
 ------ the answer
 
-ended : {l : Limits} {m : State} {n : ℕ} {before : List Token} (i : ℕ) → Stand l m n before
-    → length before ≡ i → Says l before (at_end i (finished m))
-ended {l} {m} {n} {before} i s e =
-    elim (finished m) as (λ o. finished m ≡ o → Says l before (at_end i o)) [
-      | None ↦ λ f. subst (λ (j : ℕ). Refuses l token_of WholeExpression before j Syntax) e
+-- tokens derive this tree
+pub record DerivedIn (kind : Option Standing) (l : Limits) (ts : List Token) (a : Tree kind)
+    : Type 0 where
+  pub first : List Marked
+  pub tokens : tokens_of first ≡ ts
+  pub reads : ReadsAs kind first [] a
+  pub limits : KeepsLimits l 0 first
+
+-- what an answer says of the tokens
+abbrev pub SaysIn : (kind : Option Standing) → Limits → List Token → AnswerOf (Tree kind) → Type 0
+SaysIn kind l ts (Accepted a) = DerivedIn kind l ts a
+SaysIn kind l ts (Refused i why) = Refuses l token_of (WholeOf kind) ts i why
+
+ended : {kind : Option Standing} {l : Limits} {m : State} {n : ℕ} {before : List Token} (i : ℕ) → Stand kind l m n before
+    → length before ≡ i → SaysIn kind l before (at_end i (finish kind m))
+ended {kind} {l} {m} {n} {before} i s e =
+    elim (finish kind m) as (λ o. finish kind m ≡ o → SaysIn kind l before (at_end i o)) [
+      | None ↦ λ f. subst (λ (j : ℕ). Refuses l token_of (WholeOf kind) before j Syntax) e
           (early before (begins_within s) (λ d. too_early s f d))
       | Some a ↦ λ f. record {
         first = s.base.done;
         tokens = s.base.tokens;
         reads =
-            sound s.base.moves f;
+            sound_of kind s.base.moves f;
         limits = s.base.limits s.few;
       }
     ] refl
 
-judged : (l : Limits) (ts before : List Token) (m : State) (n i : ℕ) → Stand l m n before
-    → length before ≡ i → Says l (before ++ ts) (answer l m n i ts)
-judged l [] before m n i s e =
-    subst (λ (us : List Token). Says l us (at_end i (finished m))) (sym (append-nil before))
+judged : (kind : Option Standing) (l : Limits) (ts before : List Token) (m : State) (n i : ℕ) → Stand kind l m n before
+    → length before ≡ i → SaysIn kind l (before ++ ts) (answers (finish kind) l m n i ts)
+judged kind l [] before m n i s e =
+    subst (λ (us : List Token). SaysIn kind l us (at_end i (finish kind m))) (sym (append-nil before))
     (ended i s e)
-judged l (t ∷ ts) before m n i s e =
-    elim (step m t) as (λ o. step m t ≡ o → Says l (before ++ t ∷ ts) (elim o [
+judged kind l (t ∷ ts) before m n i s e =
+    elim (step m t) as (λ o. step m t ≡ o → SaysIn kind l (before ++ t ∷ ts) (elim o [
       | None ↦ Refused i Syntax
-      | Some k ↦ cond (keeps l n k) (answer l k.state (operators_after n k) (suc i) ts)
+      | Some k ↦ cond (keeps l n k) (answers (finish kind) l k.state (operators_after n k) (suc i) ts)
           (Refused i TooDeep)
     ])) [
-      | None ↦ λ f. subst (λ (j : ℕ). Refuses l token_of WholeExpression (before ++ t ∷ ts) j
+      | None ↦ λ f. subst (λ (j : ℕ). Refuses l token_of (WholeOf kind) (before ++ t ∷ ts) j
           Syntax) e (wrong before ts t (begins_within s) (refused t s f))
       | Some k ↦ λ f. elim (keeps l n k) as (λ b. keeps l n k ≡ b
-          → Says l (before ++ t ∷ ts) (cond b (answer l k.state (operators_after n k) (suc i) ts)
+          → SaysIn kind l (before ++ t ∷ ts) (cond b (answers (finish kind) l k.state (operators_after n k) (suc i) ts)
           (Refused i TooDeep))) [
-            | true ↦ λ g. subst (λ (us : List Token). Says l us
-                (answer l k.state (operators_after n k) (suc i) ts)) (append_assoc before (t ∷ []) ts)
-                (judged l ts (before ++ t ∷ []) k.state (operators_after n k) (suc i)
+            | true ↦ λ g. subst (λ (us : List Token). SaysIn kind l us
+                (answers (finish kind) l k.state (operators_after n k) (suc i) ts)) (append_assoc before (t ∷ []) ts)
+                (judged kind l ts (before ++ t ∷ []) k.state (operators_after n k) (suc i)
                 (stand_next t k s f (kept l n k g))
                 (length-append before (t ∷ []) ∙ (let h = e in omega arith)))
-            | false ↦ λ g. subst (λ (j : ℕ). Refuses l token_of WholeExpression (before ++ t ∷ ts) j
+            | false ↦ λ g. subst (λ (j : ℕ). Refuses l token_of (WholeOf kind) (before ++ t ∷ ts) j
                 TooDeep) e (deep before ts t (begins_within s)
-                (begins_from ((based_for t k s f).done ++ marked_by k t false ∷ [])
+                (begins_from kind ((based_for t k s f).done ++ marked_by k t false ∷ [])
                 (one_token (based_for t k s f).done (marked_by k t false) (based_for t k s f).tokens)
                 (appended (based_for t k s f).moves (takes (quietly t k f) stays)))
                 (too_deep t k s f g))
@@ -472,49 +489,92 @@ judged l (t ∷ ts) before m n i s e =
     ] refl
 
 -- the answer is the tree that the tokens derive, or their first refusal
-pub answered : (l : Limits) (ts : List Token) → Says l ts (answer l (want []) 0 0 ts)
-answered l ts = judged l ts [] (want []) 0 0 (start l) refl
+pub answered : (kind : Option Standing) (l : Limits) (ts : List Token)
+    → SaysIn kind l ts (answers (finish kind) l (start_of kind) 0 0 ts)
+answered kind l ts = judged kind l ts [] (start_of kind) 0 0 (start kind l) refl
 
 ------ what is derived
 
-pub answer_step : (l : Limits) (m : State) (n i : ℕ) (t : Token) (ts : List Token) (k : Taken)
+pub answer_step : {T : Type 0} (f : State → Option T) (l : Limits) (m : State) (n i : ℕ) (t : Token) (ts : List Token) (k : Taken)
     → step m t ≡ Some k → keeps l n k ≡ true
-    → answer l m n i (t ∷ ts) ≡ answer l k.state (operators_after n k) (suc i) ts
-answer_step l m n i t ts k e f = ap (λ o. next o) e
-    ∙ ap (λ b. cond b (answer l k.state (operators_after n k) (suc i) ts) (Refused i TooDeep)) f
+    → answers f l m n i (t ∷ ts) ≡ answers f l k.state (operators_after n k) (suc i) ts
+answer_step {T} f l m n i t ts k e h = ap (λ o. next o) e
+    ∙ ap (λ b. cond b (answers f l k.state (operators_after n k) (suc i) ts) (Refused i TooDeep)) h
   where
-    next : Option Taken → Answer
+    next : Option Taken → AnswerOf T
     next None = Refused i Syntax
     next (Some k) =
-        cond (keeps l n k) (answer l k.state (operators_after n k) (suc i) ts) (Refused i TooDeep)
+        cond (keeps l n k) (answers f l k.state (operators_after n k) (suc i) ts) (Refused i TooDeep)
 
-answer_run : (l : Limits) {m o : State} {x z : Bool} {ts : List Marked} (n i : ℕ) (a : Expr)
+answer_run : {T : Type 0} (w : State → Option T) (l : Limits) {m o : State} {x z : Bool} {ts : List Marked} (n i : ℕ) (a : T)
     → Moves m x ts o z [] → z ≡ false → KeepsLimits l (operators_before n x) ts
-    → operators_before n x ≤ l.operators → finished o ≡ Some a
-    → answer l m n i (tokens_of ts) ≡ Accepted a
-answer_run l n i a stays w h f e = ap (at_end i) e
-answer_run l n i a (takes {m = m} {n = o} {x = x} {t = t} {ts = ts} (taken b z g) r) w h f e =
-    answer_step l m n i t.token (tokens_of ts)
+    → operators_before n x ≤ l.operators → w o ≡ Some a
+    → answers w l m n i (tokens_of ts) ≡ Accepted a
+answer_run w l n i a stays v h f e = ap (at_end i) e
+answer_run w l n i a (takes {m = m} {n = o} {x = x} {t = t} {ts = ts} (taken b z g) r) v h f e =
+    answer_step w l m n i t.token (tokens_of ts)
     (record { state = o; depth = t.depth; role = t.role; late = x; sized = b }) g
     (keeps_so l n (record { state = o; depth = t.depth; role = t.role; late = x; sized = b })
     (record { shallow = h.0; few = f; fewer = h.2 }))
-    ∙ answer_run l (operators_with (operators_before n x) t.role) (suc i) a r w h.3 h.2 e
-answer_run l n i a (takes {m = m} {n = o} {x = x} {t = t} {ts = ts} (taken_to_count c z g) r) w h f
-    e =
+    ∙ answer_run w l (operators_with (operators_before n x) t.role) (suc i) a r v h.3 h.2 e
+answer_run w l n i a (takes {m = m} {n = o} {x = x} {t = t} {ts = ts} (taken_to_count c z g) r) v h
+    f e =
     let same : operators_with (operators_before n x) t.role ≡ suc (operators_before n x) =
     ap (λ (p : Role). operators_with (operators_before n x) p) c in
-    answer_step l m n i t.token (tokens_of ts)
+    answer_step w l m n i t.token (tokens_of ts)
     (record { state = o; depth = t.depth; role = inside; late = x; sized = true }) g
     (keeps_so l n (record { state = o; depth = t.depth; role = inside; late = x; sized = true })
     (record { shallow = h.0; few = f; fewer = f }))
-    ∙ answer_run l (operators_before n x) (suc i) a r w
+    ∙ answer_run w l (operators_before n x) (suc i) a r v
     (subst (λ (j : ℕ). KeepsLimits l j ts) same h.3)
     (subst (λ (j : ℕ). j ≤ l.operators) same h.2) e
 
 -- what the tokens derive is the answer, so no other tree is derived
-pub derived_answer : (l : Limits) (ts : List Token) (a : Expr) → DerivesExpression l ts a
-    → answer l (want []) 0 0 ts ≡ Accepted a
-derived_answer l ts a d = go (complete d.reads) where
-  go : Completes d.first [] a → answer l (want []) 0 0 ts ≡ Accepted a
-  go h = ap (answer l (want []) 0 0) (sym d.tokens)
-      ∙ answer_run l 0 0 a h.moves refl d.limits (omega arith) h.ends
+pub derived_answer : (kind : Option Standing) (l : Limits) (ts : List Token) (a : Tree kind)
+    → DerivedIn kind l ts a → answers (finish kind) l (start_of kind) 0 0 ts ≡ Accepted a
+derived_answer kind l ts a d = go (complete_of kind d.reads) where
+  go : Finishes kind d.first [] a → answers (finish kind) l (start_of kind) 0 0 ts ≡ Accepted a
+  go h = ap (answers (finish kind) l (start_of kind) 0 0) (sym d.tokens)
+      ∙ answer_run (finish kind) l 0 0 a h.moves refl d.limits (omega arith) h.ends
+
+------ expressions and elements
+
+-- the same, said of an expression's tokens
+pub says_expression : (l : Limits) (ts : List Token) (r : AnswerOf Expr) → SaysIn None l ts r
+    → Says l ts r
+says_expression l ts (Accepted a) h =
+    record { first = h.first; tokens = h.tokens; reads = h.reads; limits = h.limits }
+says_expression l ts (Refused i why) h = h
+
+pub derived_expression : {l : Limits} {ts : List Token} {a : Expr} → DerivesExpression l ts a
+    → DerivedIn None l ts a
+derived_expression h =
+    record { first = h.first; tokens = h.tokens; reads = h.reads; limits = h.limits }
+
+-- and of an element's
+pub says_element : (s : Standing) (l : Limits) (ts : List Token) (r : AnswerOf Skeleton)
+    → SaysIn (Some s) l ts r → SaysOfElement l s ts r
+says_element s l ts (Accepted k) h =
+    record { first = h.first; tokens = h.tokens; reads = h.reads; limits = h.limits }
+says_element s l ts (Refused i why) h = h
+
+pub derived_element : {s : Standing} {l : Limits} {ts : List Token} {k : Skeleton}
+    → DerivesElement l s ts k → DerivedIn (Some s) l ts k
+derived_element h =
+    record { first = h.first; tokens = h.tokens; reads = h.reads; limits = h.limits }
+
+pub element_tree : (s : Standing) (ts us : List Marked) (j k : Skeleton)
+    → map (λ t. t.token) ts ≡ map (λ t. t.token) us
+    → ReadsElement s ts [] j → ReadsElement s us [] k → j ≡ k
+element_tree s ts us j k e r q =
+    let g = complete_of (Some s) r in
+    let h = complete_of (Some s) q in
+    let first : reached (begin s) (tokens_of ts) ≡ Some g.there = reached_all g.moves in
+    let second : reached (begin s) (tokens_of us) ≡ Some h.there = reached_all h.moves in
+    let same : reached (begin s) (tokens_of ts) ≡ reached (begin s) (tokens_of us) =
+    ap (reached (begin s)) e in
+    let one : g.there ≡ h.there = cc in
+    let both : finished_element g.there ≡ finished_element h.there = ap finished_element one in
+    let left = g.ends in
+    let right = h.ends in
+    cc

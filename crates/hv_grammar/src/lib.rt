@@ -4,4 +4,7 @@
 
 mod laws;
 
-pub use laws::{answers_rightly, has_one_tree, keeps_tokens, reads_expressions};
+pub use laws::{
+    answers_elements_rightly, answers_rightly, decides_by_control, has_one_tree, keeps_tokens,
+    reads_elements, reads_expressions,
+};

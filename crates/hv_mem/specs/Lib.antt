@@ -1,5 +1,5 @@
--- Memory. Read Memory (blocks and their bytes), then Scalars (what bytes mean), then Access (events,
--- loads, stores, copies), then Laws. `working` is about the code's own tables.
+-- Memory. Read Memory (blocks and their bytes), then Scalars (what bytes mean), then Access
+-- (events, loads, stores, copies), then Laws. `working` is about the code's own tables.
 pub mod Kinds
 pub mod Memory
 pub mod Scalars

@@ -1,6 +1,6 @@
 -- What bytes mean as a scalar, and the bytes of a value (6.2.6). Numbers are little-endian, in
--- two's complement. Which bits are the value of an integer type is said by `converted` of `hv_ctree`: a
--- `_Bool` is 1 unless all its bits are 0.
+-- two's complement. Which bits are the value of an integer type is said by `converted` of
+-- `hv_ctree`: a `_Bool` is 1 unless all its bits are 0.
 use Rattle.std.specs.Prelude.{ℕ, zero, suc, ◌+◌, ◌*◌, ◌/◌, ◌%◌, Bool, true, false, ◌&&◌, ◌==◌, if◌then◌else◌, List, [], ◌∷◌, Option, None, Some, Result, Ok, Err}
 use Rattle.std.specs.Ordering.{int_eq}
 use Rattle.std.specs.List.{list_any}

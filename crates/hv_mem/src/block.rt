@@ -1,3 +1,4 @@
+//! What one block of memory is.
 use crate::address::BlockName;
 use crate::cells::Bytes;
 

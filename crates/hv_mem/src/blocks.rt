@@ -120,8 +120,9 @@ impl Blocks {
         store_in(&mut self.blocks, at, value)
     }
 
-    /// Makes so many bytes at `to` what those at `from` were, as they are, or answers the event that
-    /// this meets: `from` is checked first, as a read, then `to`, as a write. The ranges may overlap.
+    /// Makes so many bytes at `to` what those at `from` were, as they are, or answers the event
+    /// that this meets: `from` is checked first, as a read, then `to`, as a write. The ranges may
+    /// overlap.
     pub fn copy(&mut self, from: Address, to: Address, bytes: u64, align: u64) -> Result<(), Kind>
         requires from { IsAddress self.old from }
         requires to { IsAddress self.old to }

@@ -1,3 +1,4 @@
+//! The undefined events of a run.
 ghost use Rattle.std.specs.Prelude.{◌≡◌};
 ghost use Rattle.hv_mem.specs.Kinds.{number};
 

@@ -42,7 +42,8 @@ pub fn store_in(blocks: &mut Vec<Block>, at: Address, value: Value) -> Result<()
 // Stores a value at an offset of a live block.
 fn write_in(block: &mut Block, offset: usize, value: Value)
     requires live { is_live block.old.contents ≡ true }
-    requires within { offset + scalar_size (scalar_of value) ≤ length (bytes_in block.old.contents) }
+    requires within { offset + scalar_size (scalar_of value)
+        ≤ length (bytes_in block.old.contents) }
     ensures { block.new ≡ rewritten (pos offset) (bytes_of value) block.old }
 {
     match &mut block.contents {

@@ -1,7 +1,6 @@
 //! Scalars in the bytes of a block.
-ghost use Rattle.std.specs.Prelude.{◌≡◌, ◌+◌, ◌-◌, ◌/◌, ◌≤◌, ◌<◌, ◌^◌, ℕ, IfOk, pos, length, take, drop, nat_lt, if◌then◌else◌};
+ghost use Rattle.std.specs.Prelude.{◌≡◌, ◌+◌, ◌≤◌, ◌<◌, ◌^◌, ℕ, IfOk, pos, length, take, drop};
 ghost use Rattle.hv_ctree.specs.types.Kinds.{kind_size};
-ghost use Rattle.hv_ctree.specs.types.Conversions.{converted};
 ghost use Rattle.hv_mem.specs.Memory.{spliced};
 ghost use Rattle.hv_mem.specs.Scalars.{begun_by, bytes_of, integer_read, is_part_of, low_bytes, number_in, parts, read, same_block, same_pointer, scalar_of, scalar_size, whole_pointer};
 ghost use Rattle.hv_mem.specs.working.Reading.{with_lower};
@@ -11,6 +10,7 @@ use crate::cells::Bytes;
 use crate::kind::Kind;
 use crate::value::{Byte, Pointer, Scalar, Value};
 use hv_ctree::IntKind;
+use hv_ctypes::{convert_to_kind, size_of_kind};
 
 /// The bytes of an integer type, which are its alignment too.
 pub fn kind_size(kind: IntKind) -> usize
@@ -18,12 +18,7 @@ pub fn kind_size(kind: IntKind) -> usize
     ensures some { 0 < result }
     ensures few { result ≤ 8 }
 {
-    match kind {
-        IntKind::Boolean | IntKind::Char | IntKind::SignedChar | IntKind::UnsignedChar => 1,
-        IntKind::Short | IntKind::UnsignedShort => 2,
-        IntKind::Int | IntKind::UnsignedInt => 4,
-        IntKind::Long | IntKind::UnsignedLong | IntKind::LongLong | IntKind::UnsignedLongLong => 8,
-    }
+    size_of_kind(kind) as usize
 }
 
 /// The bytes of a scalar, which are its alignment too.
@@ -70,7 +65,7 @@ fn read_integer(bytes: &Bytes, offset: usize, kind: IntKind) -> Result<Value, Ki
 {
     match read_number(bytes, offset, kind_size(kind)) {
         Ok(number) => Ok(Value::Number {
-            bits: number_of_bits(number, kind),
+            bits: convert_to_kind(number, kind),
             kind,
         }),
         Err(event) => Err(event),
@@ -110,40 +105,6 @@ fn with_lower(byte: Byte, above: Result<u64, Kind>) -> Result<u64, Kind>
             Ok(_) => Err(Kind::Indeterminate),
             Err(event) => Err(event),
         },
-    }
-}
-
-// The value of an integer type that the lowest bits of a number tell.
-fn number_of_bits(number: u64, kind: IntKind) -> u64
-    ensures { result ≡ converted kind number }
-{
-    match kind {
-        IntKind::Boolean => { if number == 0 { 0 } else { 1 } }
-        IntKind::Char | IntKind::SignedChar => sign_extended(number % 0x100, 0x100),
-        IntKind::UnsignedChar => number % 0x100,
-        IntKind::Short => sign_extended(number % 0x1_0000, 0x1_0000),
-        IntKind::UnsignedShort => number % 0x1_0000,
-        IntKind::Int => sign_extended(number % 0x1_0000_0000, 0x1_0000_0000),
-        IntKind::UnsignedInt => number % 0x1_0000_0000,
-        IntKind::Long | IntKind::UnsignedLong | IntKind::LongLong | IntKind::UnsignedLongLong =>
-            number,
-    }
-}
-
-// The bits of a signed value that has this remainder modulo `count`, the number of its type's
-// values.
-fn sign_extended(remainder: u64, count: u64) -> u64
-    requires below { remainder < count }
-    requires small { count ≤ 2 ^ 32 }
-    ensures { result
-        ≡ (if nat_lt remainder (count / 2)
-        then remainder
-        else remainder + (2 ^ 64 - count)) }
-{
-    if remainder < count / 2 {
-        remainder
-    } else {
-        remainder + (u64::MAX - count + 1)
     }
 }
 

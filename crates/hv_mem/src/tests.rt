@@ -126,8 +126,8 @@ const INT: Scalar = Scalar::Integer(IntKind::Int);
 
 const LONG: Scalar = Scalar::Integer(IntKind::Long);
 
-// Block 0 has a number in bytes 0 to 3, nothing in 4 to 7, a pointer in 8 to 15, half of it in 16 to
-// 19, and nothing after that. Block 1 has ended, block 2 is read-only and has a number.
+// Block 0 has a number in bytes 0 to 3, nothing in 4 to 7, a pointer in 8 to 15, half of it in 16
+// to 19, and nothing after that. Block 1 has ended, block 2 is read-only and has a number.
 static BEFORE: [StoreRow; 3] = [
     (
         0,

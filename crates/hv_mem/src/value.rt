@@ -1,3 +1,4 @@
+//! The values of scalars, and the bytes of memory.
 use crate::Address;
 use hv_ctree::IntKind;
 

@@ -34,8 +34,9 @@ pub record IsAnswer (connective : Connective) (ds : List Decision) (a b c : Cond
       → holds_in ds c v ≡ apply connective (holds_in ds a v) (holds_in ds b v)
 
 -- each answer that was kept is right
-pub record AreAnswers (connective : Connective) (ds : List Decision) (results : Results) : Type 0 where
-  pub each : (a b c : Cond) → known results a b ≡ Some c → IsAnswer connective ds a b c
+pub record AreAnswers (connective : Connective) (ds : List Decision) (results : Results) : Type 0
+  where
+    pub each : (a b c : Cond) → known results a b ≡ Some c → IsAnswer connective ds a b c
 
 -- how many of these have no answer
 abbrev pub open_among : (Cond → Option Cond) → List Cond → ℕ
@@ -49,7 +50,8 @@ open_pairs answer (x ∷ xs) ys = open_among (answer x) ys + open_pairs answer x
 
 -- what computing the connective of a and b does: each branch that is added uses up a pair of those
 -- reached from a and b
-pub record Grows (connective : Connective) (old new : Nodes) (before after : Results) (a b : Cond) : Type 0 where
+pub record Grows (connective : Connective) (old new : Nodes) (before after : Results) (a b : Cond)
+    : Type 0 where
   pub reduced : IsReduced new
   pub extends : Extends old new
   pub answers : AreAnswers connective (newest_first new) after

@@ -87,7 +87,8 @@ pub record IsClosed (ds : List Decision) (xs : List Cond) : Type 0 where
       → node_in ds c ≡ Branch i low high → Within xs low × Within xs high
 
 -- what a condition means where a variable is false, and where it is true
-pub record IsHalves (variables : ℕ) (ds : List Decision) (c : Cond) (i : ℕ) (low high : Cond) : Type 0 where
+pub record IsHalves (variables : ℕ) (ds : List Decision) (c : Cond) (i : ℕ) (low high : Cond)
+    : Type 0 where
   pub low_older : low.index ≤ c.index
   pub high_older : high.index ≤ c.index
   pub smaller : level variables ds c ≡ i → (low.index < c.index) × (high.index < c.index)

@@ -67,6 +67,7 @@ abbrev pub tag_of : Option Tag → plain.MayTag
 tag_of None = plain.no_tag
 tag_of (Some t) = plain.tag t.place t.name
 
+-- the plain trees of expressions, and of what they reach
 abbrev mutual
   -- an expression
   pub expr_of : Expr → plain.Expr

@@ -39,6 +39,7 @@ abbrev pub designation_of : Designator → plain.Designation
 designation_of (Index at e) = plain.of_index at (expr_of e.value)
 designation_of (Member at n) = plain.of_member at n
 
+-- the plain trees of initialisers, and of lists of them
 abbrev mutual
   -- an initialiser
   pub initializer_of : Initializer → plain.Initializer
@@ -91,6 +92,7 @@ declaration_of d =
     plain.declaration d.place (erase.declared_words_after expressions.no_specifiers d.specifiers)
     (init_declarators_after plain.no_init_declarators d.declarators)
 
+-- the plain trees of statements, and of the items of blocks
 abbrev mutual
   -- a statement
   pub stmt_of : Stmt → plain.Stmt

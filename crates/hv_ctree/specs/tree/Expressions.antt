@@ -61,6 +61,7 @@ mutual
     assign : Place → AssignmentOperator → Expr → Expr → Expr
     comma : Place → Expr → Expr → Expr
 
+  -- argument-expression-list (6.5.2)
   pub data Arguments : Type 0 where
     no_arguments : Arguments
     then_argument : Arguments → Expr → Arguments
@@ -69,6 +70,7 @@ mutual
   pub data TypeName : Type 0 where
     type_name : Place → Specifiers → MayDeclarator → TypeName
 
+  -- declaration-specifiers (6.7), or specifier-qualifier-list (6.7.2.1)
   pub data Specifiers : Type 0 where
     no_specifiers : Specifiers
     then_specifier : Specifiers → Specifier → Specifiers
@@ -92,13 +94,16 @@ mutual
     defined : Place → StructOrUnion → MayTag → Members → CompoundSpecifier
     mentioned : Place → StructOrUnion → Place → List ℕ → CompoundSpecifier
 
+  -- struct-declaration-list (6.7.2.1)
   pub data Members : Type 0 where
     no_members : Members
     then_member : Members → MemberDeclaration → Members
 
+  -- struct-declaration (6.7.2.1)
   pub data MemberDeclaration : Type 0 where
     members_of : Place → Specifiers → Declarators → MemberDeclaration
 
+  -- struct-declarator-list (6.7.2.1)
   pub data Declarators : Type 0 where
     no_declarators : Declarators
     then_declarator : Declarators → Declarator → Declarators
@@ -108,10 +113,12 @@ mutual
     listed : Place → MayTag → Enumerators → Bool → EnumSpecifier
     listed_before : Place → Place → List ℕ → EnumSpecifier
 
+  -- enumerator-list (6.7.2.2)
   pub data Enumerators : Type 0 where
     no_enumerators : Enumerators
     then_enumerator : Enumerators → Enumerator → Enumerators
 
+  -- enumerator (6.7.2.2); with its value or without
   pub data Enumerator : Type 0 where
     plain : Place → List ℕ → Enumerator
     valued : Place → List ℕ → Expr → Enumerator
@@ -120,6 +127,7 @@ mutual
   pub data Declarator : Type 0 where
     declarator : Place → Pointers → Core → Suffixes → Declarator
 
+  -- a declarator, or none
   pub data MayDeclarator : Type 0 where
     no_declarator : MayDeclarator
     some_declarator : Declarator → MayDeclarator
@@ -130,10 +138,12 @@ mutual
     named : Place → List ℕ → Core
     group : Place → Declarator → Core
 
+  -- what stands after the middle of a declarator, in order
   pub data Suffixes : Type 0 where
     no_suffixes : Suffixes
     then_suffix : Suffixes → Suffix → Suffixes
 
+  -- 6.7.5.2 and 6.7.5.3: `[` `]`, without an expression or with one; parameters; or `(` `)`
   pub data Suffix : Type 0 where
     unsized : Place → Qualifiers → Suffix
     sized : Place → Qualifiers → Expr → Suffix
@@ -144,10 +154,12 @@ mutual
   pub data ParameterTypes : Type 0 where
     parameter_types : Place → Parameters → Bool → ParameterTypes
 
+  -- parameter-list (6.7.5)
   pub data Parameters : Type 0 where
     no_parameters : Parameters
     then_parameter : Parameters → Parameter → Parameters
 
+  -- parameter-declaration (6.7.5)
   pub data Parameter : Type 0 where
     parameter : Place → Specifiers → MayDeclarator → Parameter
 

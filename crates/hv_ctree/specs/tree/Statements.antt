@@ -16,6 +16,7 @@ mutual
     value : Place → Expr → Initializer
     braced : Place → Initializers → Bool → Initializer
 
+  -- initializer-list (6.7.8), each with the place of its first token
   pub data Initializers : Type 0 where
     no_initializers : Initializers
     then_initializer : Initializers → Place → Designation → Initializer → Initializers

@@ -25,6 +25,7 @@ lengths_agree _ _ = true
 -- whether two types are compatible where they stand within others: there an array's length is known
 -- in both or in neither
 abbrev mutual
+  -- the types with their qualifiers
   pub alike : PlainType → PlainType → Bool
   alike (plain constant shape) (plain constant' shape') =
       same_truth constant constant' && shapes_alike shape shape'

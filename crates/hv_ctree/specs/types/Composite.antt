@@ -10,10 +10,12 @@ known_length None n = n
 
 -- the composite of two types, of their shapes, and of their parameters
 abbrev mutual
+  -- of two types; the qualifier is the first's
   pub composite : PlainType → PlainType → PlainType
   composite (plain constant shape) (plain constant' shape') =
       plain constant (composite_shape shape shape')
 
+  -- of their shapes
   pub composite_shape : PlainShape → PlainShape → PlainShape
   composite_shape (pointer t) (pointer u) = pointer (composite t u)
   composite_shape (array t m) (array u n) = array (composite t u) (known_length m n)

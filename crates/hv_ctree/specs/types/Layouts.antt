@@ -23,9 +23,11 @@ repeated (Some count) (Some element) =
 
 -- the layout of a type, where structures and unions have the layouts given by their numbers
 abbrev mutual
+  -- of a type, whose qualifier tells nothing
   pub layout_by : (ℕ → Option Layout) → PlainType → Option Layout
   layout_by compounds (plain constant shape) = shape_layout_by compounds shape
 
+  -- of a shape; `None` where it is incomplete or a function
   pub shape_layout_by : (ℕ → Option Layout) → PlainShape → Option Layout
   shape_layout_by compounds void = None
   shape_layout_by compounds (integer kind) = Some (scalar (kind_size kind))

@@ -8,9 +8,11 @@ use Rattle.hv_ctree.specs.types.Layouts.{rounded_up, layout_by}
 -- the number of the structure or union that a type is, or that the elements of an array are,
 -- through all its dimensions
 abbrev mutual
+  -- of a type
   pub innermost : PlainType → Option ℕ
   innermost (plain constant shape) = innermost_shape shape
 
+  -- of a shape
   pub innermost_shape : PlainShape → Option ℕ
   innermost_shape void = None
   innermost_shape (integer kind) = None
@@ -28,7 +30,8 @@ taken_after is_union taken member =
 -- the layout of a structure or union of which the members so far take these bytes and have this
 -- alignment
 abbrev pub laid_from : (ℕ → Option Layout) → Bool → ℕ → ℕ → List PlainMember → Option Layout
-laid_from compounds is_union taken align [] = Some (record { size = rounded_up taken align; align = align })
+laid_from compounds is_union taken align [] =
+    Some (record { size = rounded_up taken align; align = align })
 laid_from compounds is_union taken align (m ∷ ms) =
     option_and_then
     (λ l. laid_from compounds is_union (taken_after is_union taken l) (max align l.align) ms)

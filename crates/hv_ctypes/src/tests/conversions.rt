@@ -1,3 +1,4 @@
+//! Operands of each pair of types, and values that wrap.
 use super::*;
 use hv_base::IntType;
 

@@ -1,3 +1,4 @@
+//! Tables of structures and unions with their layouts.
 use super::*;
 
 #[test]

@@ -8,15 +8,19 @@ use Rattle.hv_ctree.specs.declared.tree.words.Selector.{Selector}
 use Rattle.hv_ctree.specs.declared.tree.words.Step.{Step as StepSign}
 use Rattle.hv_ctree.specs.declared.tree.words.StructOrUnion.{StructOrUnion}
 use Rattle.hv_ctree.specs.declared.tree.words.UnaryOperator.{UnaryOperator}
-use Rattle.hv_ctree.specs.tree.Expressions.{Expr, prefix, unary, sizeof_expr, cast, binary, conditional, assign, comma, Arguments, TypeName, Specifiers, MayTag, Members, Declarators, Enumerators, Core, Suffixes, Parameters as ParameterList, Pointers, Qualifiers, place_of}
+use Rattle.hv_ctree.specs.tree.Expressions.{Expr, prefix, unary, sizeof_expr, cast, binary, conditional, assign, comma, Arguments, TypeName, Specifiers, MayTag, Members, Declarator, Declarators, Enumerators, Core, Suffixes, Parameters as ParameterList, Pointers, Qualifiers, place_of}
+use Rattle.hv_ctree.specs.tree.Statements.{Designation, Initializer, Initializers, InitDeclarators}
 use Rattle.hv_grammar.specs.Symbols.{Role, outside, inside, level}
 use Rattle.hv_grammar.specs.Expressions.{stars, braced}
+use Rattle.hv_grammar.specs.Elements.{Standing}
+use Rattle.hv_grammar.specs.machine.Parts.{Setting, Part, Spot, wanted}
 
 -- what specifiers stand in
 pub data Owner : Type 0 where
   of_type_name : Owner
   of_parameter : Owner
   of_member : Owner
+  of_declaration : Owner
 
 -- whether a declarator has a name, has none, or may have one
 pub data Mode : Type 0 where
@@ -57,6 +61,17 @@ pub data Frame : Type 0 where
   -- a declarator up to a `[` or `(` after it
   Length : Mode → Place → Pointers → Core → Suffixes → Place → Qualifiers → Frame
   Parameters : Mode → Place → Pointers → Core → Suffixes → Place → Place → ParameterList → Frame
+  -- initialisers in braces; `[` of a designator; a designation, whose initialiser is read now
+  Braces : Place → Initializers → Frame
+  Index : Place → Frame
+  Designated : Designation → Frame
+  -- an element up to a declaration; its specifiers and declarators up to one that is read now; a
+  -- declarator and the `=` after it
+  Declares : Standing → Setting → Frame
+  Declaring : Place → Specifiers → InitDeclarators → Frame
+  Initialized : Declarator → Frame
+  -- a statement up to an expression
+  Statement : Standing → Part → Frame
 
 -- the level that is wanted in the frame; 16 where no expression is
 abbrev pub hole : Frame → ℕ
@@ -76,6 +91,10 @@ hole (Assign op a) = 1
 hole (Comma a) = 1
 hole (Valued p n) = 2
 hole (Length m p ps c ss q qs) = 1
+hole (Index p) = 2
+hole (Designated g) = 1
+hole (Initialized x) = 1
+hole (Statement s c) = wanted c
 hole _ = 16
 
 -- the level of the innermost hole
@@ -130,6 +149,13 @@ weigh (OwnedMembers p xs ds) d = d
 weigh (Group m p ps q) d = suc (stars ps d)
 weigh (Length m p ps c ss q qs) d = suc (stars ps d)
 weigh (Parameters m p ps c ss q r xs) d = suc (stars ps d)
+weigh (Braces p xs) d = suc d
+weigh (Index p) d = suc d
+weigh (Designated g) d = d
+weigh (Declares s c) d = d
+weigh (Declaring p xs ds) d = d
+weigh (Initialized x) d = d
+weigh (Statement s c) d = d
 
 -- how many are open
 abbrev pub depth : List Frame → ℕ
@@ -195,6 +221,15 @@ pub data At : Type 0 where
   ParametersStart : Mode → Place → Pointers → Core → Suffixes → Place → At
   ParameterNext : At
   AfterEllipsis : At
+  -- before an initialiser; after a `{` or a comma of initialisers; after the `.` of a designator;
+  -- after a designator; after an initialiser in braces
+  InitializerStart : At
+  BracesStart : At
+  AfterDot : Place → At
+  AfterDesignator : Designation → At
+  AfterInitializer : Initializer → At
+  -- in an element's own production
+  AtSpot : Standing → Spot → At
 
 -- the machine: its frames, innermost first, and where it is
 pub record State : Type 0 where

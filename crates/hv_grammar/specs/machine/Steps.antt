@@ -17,9 +17,12 @@ use Rattle.hv_ctree.specs.declared.tree.words.TypeQualifier.{TypeQualifier}
 use Rattle.hv_ctree.specs.declared.tree.words.TypeQualifier.TheVariants.{Const, Restrict}
 use Rattle.hv_ctree.specs.declared.tree.words.UnaryOperator.TheVariants.{Address, Indirection, Plus, Minus, Complement, Not}
 use Rattle.hv_ctree.specs.tree.Expressions.{Expr, identifier, constant, string, parenthesized, subscript, call, member, postfix, sizeof_type, no_arguments, then_argument, type_name, Specifiers, no_specifiers, then_specifier, Specifier, storage, of_type, qualifier, inline, word, compound, enumeration, typedef_name, defined, mentioned, MayTag, no_tag, tag, no_members, then_member, members_of, no_declarators, then_declarator, listed, listed_before, Enumerators, no_enumerators, then_enumerator, plain, valued, Declarator, declarator, MayDeclarator, no_declarator, some_declarator, Core, nothing, named, group, Suffixes, no_suffixes, then_suffix, unsized, sized, function, unprototyped, parameter_types, no_parameters, then_parameter, parameter, Pointers, no_pointers, then_pointer, Qualifiers, no_qualifiers, then_qualifier, void_word, char_word, short_word, int_word, long_word, signed_word, unsigned_word, bool_word, place_of}
-use Rattle.hv_grammar.specs.Symbols.{Symbol, keyword, name, marked, number, text, sign, Token, Role, inside, operator}
+use Rattle.hv_ctree.specs.tree.Statements.{Designation, no_designation, of_index, of_member, Initializer, value, braced as in_braces, no_initializers, then_initializer, bare, initialized, InitDeclarators, no_init_declarators, then_init_declarator, Skeleton, hollow_empty, hollow_function, hollow_default, hollow_compound, hollow_expression, hollow_if, hollow_if_else, hollow_continue, hollow_break}
+use Rattle.hv_grammar.specs.Symbols.{Symbol, keyword, name, marked, number, text, sign, Token, Role, outside, inside, operator, right_paren, colon, semicolon}
+use Rattle.hv_grammar.specs.Elements.{Standing, External, Item, Nested}
+use Rattle.hv_grammar.specs.machine.Parts.{alone, in_for, Optional, for_first, of_return, Part, of_case, of_expression, of_if, of_switch, of_while, of_do, optional, Fixed, the_hole, the_colon, the_semicolon, the_opening, the_right_brace, the_while, the_else, Spot, Start, Await, Opening, AfterIf, MayElse, ForOpening, ForStart, Before, meets, closer, after_optional, after_part, after_declaration}
 use Rattle.hv_grammar.specs.Expressions.{stars, braced, has_type}
-use Rattle.hv_grammar.specs.machine.Frames.{Owner, of_type_name, of_parameter, of_member, Mode, only_named, only_abstract, either, Frame, Parenthesis, AfterSizeof, Subscript, Callee, Calling, Prefix, Unary, Sizeof, SizeofType, CastType, Cast, Then, Else, Specified, Body, Listing, Valued, Owned, OwnedMembers, Group, Length, Parameters, hole_of, made, weigh, depth, within, completes, plug, At, Want, Have, Selecting, Words, AfterCompound, AfterTag, AfterEnum, AfterEnumTag, MemberStart, EnumeratorStart, AfterEnumerator, Pointing, Opened, Direct, Bracket, ParametersStart, ParameterNext, AfterEllipsis, State, Infix, by_operator, by_assignment, by_question, by_comma, by_bracket, by_parenthesis, left, reach, makes, begun, weigh_at}
+use Rattle.hv_grammar.specs.machine.Frames.{Owner, of_type_name, of_parameter, of_member, of_declaration, Mode, only_named, only_abstract, either, Frame, Parenthesis, AfterSizeof, Subscript, Callee, Calling, Prefix, Unary, Sizeof, SizeofType, CastType, Cast, Then, Else, Specified, Body, Listing, Valued, Owned, OwnedMembers, Group, Length, Parameters, Braces, Index, Designated, Declares, Declaring, Initialized, Statement, hole_of, made, weigh, depth, within, completes, plug, At, Want, Have, Selecting, Words, AfterCompound, AfterTag, AfterEnum, AfterEnumTag, MemberStart, EnumeratorStart, AfterEnumerator, Pointing, Opened, Direct, Bracket, ParametersStart, ParameterNext, AfterEllipsis, InitializerStart, BracesStart, AfterDot, AfterDesignator, AfterInitializer, AtSpot, State, Infix, by_operator, by_assignment, by_question, by_comma, by_bracket, by_parenthesis, left, reach, makes, begun, weigh_at}
 
 -- the machine within these frames
 abbrev pub state : List Frame → At → State
@@ -53,6 +56,10 @@ quiet m d = took inside m d
 -- a counted operator of an expression
 abbrev pub loud : State → ℕ → Option Taken
 loud m d = took operator m d
+
+-- a token that stands in no expression
+abbrev pub loosely : State → ℕ → Option Taken
+loosely m d = took outside m d
 
 -- the `(` before the token counts
 abbrev pub lately : Option Taken → Option Taken
@@ -121,6 +128,7 @@ word_of p _ = None
 -- whether such a word may stand there
 abbrev pub may_stand : Owner → Specifier → Bool
 may_stand of_parameter x = true
+may_stand of_declaration x = true
 may_stand o (storage p c) = false
 may_stand o (inline p) = false
 may_stand o x = true
@@ -291,7 +299,55 @@ abbrev pub listed_at : List Frame → Place → MayTag → Enumerators → Bool 
 listed_at stack q t es b =
     specified stack q (braced (depth stack)) (of_type q (enumeration q (listed q t es b)))
 
--- a comma that ends an argument (6.5.2) or an enumerator's value (6.7.2.2)
+-- where the machine is in an element
+abbrev pub spot : Standing → Spot → State
+spot s x = state [] (AtSpot s x)
+
+-- the place of a declarator
+abbrev pub declarator_place : Declarator → Place
+declarator_place (declarator p ps c ss) = p
+
+-- the `;` of a declaration, which stands there (6.7)
+abbrev pub declared : List Frame → Place → Specifiers → InitDeclarators → Option Taken
+declared (Declares s c ∷ []) p xs ds = loosely (spot s (after_declaration c p xs ds)) 0
+declared _ p xs ds = None
+
+-- the place of an initialiser
+abbrev pub initializer_place : Initializer → Place
+initializer_place (value p a) = p
+initializer_place (in_braces p xs b) = p
+
+-- the place of an initialiser with its designation
+abbrev pub item_place : Designation → Initializer → Place
+item_place no_designation x = initializer_place x
+item_place (of_index p a) x = p
+item_place (of_member p n) x = p
+
+-- a sign after an initialiser, by what the initialiser stands in (6.7, 6.7.8)
+abbrev pub initialized_at : List Frame → Initializer → Punct → Option Taken
+initialized_at (Designated g ∷ Braces q xs ∷ stack) x puncts.Comma =
+    loosely (state (Braces q (then_initializer xs (item_place g x) g x) ∷ stack) BracesStart)
+    (suc (depth stack))
+initialized_at (Designated g ∷ Braces q xs ∷ stack) x puncts.RightBrace =
+    loosely (state stack (AfterInitializer
+    (in_braces q (then_initializer xs (item_place g x) g x) false))) (suc (depth stack))
+initialized_at (Initialized y ∷ Declaring p xs ds ∷ stack) x puncts.Comma =
+    loosely (state (Declaring p xs
+    (then_init_declarator ds (initialized (declarator_place y) y x)) ∷ stack)
+    (Pointing only_named p no_pointers)) (depth stack)
+initialized_at (Initialized y ∷ Declaring p xs ds ∷ stack) x puncts.Semicolon =
+    declared stack p xs (then_init_declarator ds (initialized (declarator_place y) y x))
+initialized_at _ x s = None
+
+-- a sign after an expression that is an initialiser
+abbrev pub value_at : List Frame → Expr → Punct → Option Taken
+value_at stack b s = initialized_at stack (value (place_of b) b) s
+
+-- a symbol after an expression of a statement (6.8)
+abbrev pub part_at : Standing → Part → Expr → Symbol → Option Taken
+part_at s c b t = cond (meets (closer c) t) (loosely (spot s (after_part c b)) 0) None
+
+-- a comma that ends an argument (6.5.2), an enumerator's value (6.7.2.2) or an initialiser (6.7.8)
 abbrev pub argument_at : List Frame → Expr → Option Taken
 argument_at (Callee a ∷ stack) b =
     quiet (want (Calling a (then_argument no_arguments b) ∷ stack)) (suc (depth stack))
@@ -300,40 +356,53 @@ argument_at (Calling a xs ∷ stack) b =
 argument_at (Valued p n ∷ Listing q t es ∷ stack) b =
     plainly stack (state (Listing q t (then_enumerator es (valued p n b)) ∷ stack) EnumeratorStart)
     (braced (depth stack))
+argument_at (Designated g ∷ stack) b = value_at (Designated g ∷ stack) b puncts.Comma
+argument_at (Initialized x ∷ stack) b = value_at (Initialized x ∷ stack) b puncts.Comma
 argument_at _ b = None
 
 -- a comma after an operand: an operator where one may stand (6.5.17)
 abbrev pub comma_at : Reduced → Option Taken
 comma_at r = infix_at by_comma r (argument_at r.stack r.operand)
 
--- `)` of a parenthesis (6.5.1) or of a call (6.5.2.2)
+-- `)` of a parenthesis (6.5.1), of a call (6.5.2.2) or of a statement (6.8.4, 6.8.5)
 abbrev pub close_at : List Frame → Expr → Option Taken
 close_at (Parenthesis p ∷ stack) b = quiet (have 15 stack (parenthesized p b)) (suc (depth stack))
 close_at (Callee a ∷ stack) b =
     quiet (have 15 stack (call (place_of a) a (then_argument no_arguments b))) (suc (depth stack))
 close_at (Calling a xs ∷ stack) b =
     quiet (have 15 stack (call (place_of a) a (then_argument xs b))) (suc (depth stack))
+close_at (Statement s c ∷ []) b = part_at s c b right_paren
 close_at _ b = None
 
--- `]` of a subscript (6.5.2.1) or of an array declarator (6.7.5.2)
+-- `]` of a subscript (6.5.2.1), of an array declarator (6.7.5.2) or of a designator (6.7.8)
 abbrev pub bracket_at : List Frame → Expr → Option Taken
 bracket_at (Subscript a ∷ stack) b =
     quiet (have 15 stack (subscript (place_of a) a b)) (suc (depth stack))
 bracket_at (Length m p ps c ss q qs ∷ stack) b =
     plainly stack (state stack (Direct m p ps c (then_suffix ss (sized q qs b))))
     (suc (stars ps (depth stack)))
+bracket_at (Index p ∷ stack) b =
+    loosely (state stack (AfterDesignator (of_index p b))) (suc (depth stack))
 bracket_at _ b = None
 
--- `}` after an enumerator's value (6.7.2.2)
+-- `}` after an enumerator's value (6.7.2.2) or an initialiser (6.7.8)
 abbrev pub brace_at : List Frame → Expr → Option Taken
 brace_at (Valued p n ∷ Listing q t es ∷ stack) b =
     listed_at stack q t (then_enumerator es (valued p n b)) false
+brace_at (Designated g ∷ stack) b = value_at (Designated g ∷ stack) b puncts.RightBrace
 brace_at _ b = None
 
--- `:` of a conditional expression (6.5.15)
+-- `:` of a conditional expression (6.5.15) or of a label (6.8.1)
 abbrev pub colon_at : List Frame → Expr → Option Taken
 colon_at (Then a ∷ stack) b = quiet (want (Else a b ∷ stack)) (suc (depth stack))
+colon_at (Statement s c ∷ []) b = part_at s c b colon
 colon_at _ b = None
+
+-- `;` after an initialiser (6.7) or an expression of a statement (6.8)
+abbrev pub semicolon_at : List Frame → Expr → Option Taken
+semicolon_at (Initialized x ∷ stack) b = value_at (Initialized x ∷ stack) b puncts.Semicolon
+semicolon_at (Statement s c ∷ []) b = part_at s c b semicolon
+semicolon_at _ b = None
 
 -- what a token does with the frames and the operand that are left
 abbrev pub after : (List Frame → Expr → Option Taken) → Reduced → Option Taken
@@ -355,6 +424,7 @@ have_sign stack k a puncts.RightParenthesis = after close_at (reduce 0 stack k a
 have_sign stack k a puncts.RightBracket = after bracket_at (reduce 0 stack k a)
 have_sign stack k a puncts.RightBrace = after brace_at (reduce 0 stack k a)
 have_sign stack k a puncts.Colon = after colon_at (reduce 0 stack k a)
+have_sign stack k a puncts.Semicolon = after semicolon_at (reduce 0 stack k a)
 have_sign stack k a puncts.Dot =
     after_postfix k (loud (state stack (Selecting Dot a)) (depth stack))
 have_sign stack k a puncts.Arrow =
@@ -437,6 +507,24 @@ after_group (Group m p ps q ∷ stack) x puncts.RightParenthesis =
     (suc (stars ps (depth stack)))
 after_group _ x s = None
 
+-- `,`, `=` or `;` after a declarator of a declaration (6.7)
+abbrev pub after_init : List Frame → Declarator → Punct → Option Taken
+after_init (Declaring p xs ds ∷ stack) x puncts.Comma =
+    loosely (state (Declaring p xs (then_init_declarator ds (bare (declarator_place x) x)) ∷ stack)
+    (Pointing only_named p no_pointers)) (depth stack)
+after_init (Declaring p xs ds ∷ stack) x puncts.Equal =
+    loosely (state (Initialized x ∷ Declaring p xs ds ∷ stack) InitializerStart) (depth stack)
+after_init (Declaring p xs ds ∷ stack) x puncts.Semicolon =
+    declared stack p xs (then_init_declarator ds (bare (declarator_place x) x))
+after_init _ x s = None
+
+-- `{` after the declarator of a function definition (6.9.1)
+abbrev pub body_at : List Frame → Declarator → Place → Option Taken
+body_at (Declaring p xs no_init_declarators ∷ Declares External alone ∷ []) x q =
+    loosely (spot External
+    (Await (the_hole ∷ the_right_brace ∷ []) (hollow_function p xs x q 0))) 0
+body_at _ x q = None
+
 -- a sign after a declarator, or after none, by what it stands in
 abbrev pub ended : List Frame → MayDeclarator → Punct → Option Taken
 ended (Owned of_parameter r xs ∷ stack) x s = after_parameter (Owned of_parameter r xs ∷ stack) x s
@@ -444,6 +532,8 @@ ended (Owned of_type_name r xs ∷ stack) x s = after_type_name (Owned of_type_n
 ended (OwnedMembers r xs ds ∷ stack) (some_declarator x) s =
     after_member (OwnedMembers r xs ds ∷ stack) x s
 ended (Group m p ps q ∷ stack) (some_declarator x) s = after_group (Group m p ps q ∷ stack) x s
+ended (Declaring p xs ds ∷ stack) (some_declarator x) s =
+    after_init (Declaring p xs ds ∷ stack) x s
 ended _ x s = None
 
 -- a declarator with nothing at its middle and after it
@@ -516,6 +606,7 @@ step_direct m p ps c ss stack q (sign puncts.LeftBracket) =
     plainly stack (state stack (Bracket m p ps c ss q no_qualifiers)) (suc (stars ps (depth stack)))
 step_direct m p ps c ss stack q (sign puncts.LeftParenthesis) =
     plainly stack (state stack (ParametersStart m p ps c ss q)) (suc (stars ps (depth stack)))
+step_direct m p ps c ss stack q (sign puncts.LeftBrace) = body_at stack (declarator p ps c ss) q
 step_direct m p ps c ss stack q (sign s) = ended stack (some_declarator (declarator p ps c ss)) s
 step_direct m p ps c ss stack q _ = None
 
@@ -568,6 +659,13 @@ step_ellipsis _ s = None
 
 ------ after specifiers
 
+-- a token after the specifiers of a declaration that is none: `;`, or it begins a declarator (6.7)
+abbrev pub declaration_words : Symbol → Place → Specifiers → List Frame → Place → Option Taken
+declaration_words (sign puncts.Semicolon) p xs stack q =
+    declared stack p xs no_init_declarators
+declaration_words s p xs stack q =
+    step_pointing only_named q no_pointers (Declaring p xs no_init_declarators ∷ stack) q s
+
 -- a token after specifiers that is none: it begins a declarator, or stands after none
 abbrev pub words_ended : Owner → Place → Specifiers → List Frame → Place → Symbol → Option Taken
 words_ended of_type_name p xs stack q s =
@@ -576,6 +674,7 @@ words_ended of_parameter p xs stack q s =
     step_pointing either q no_pointers (Owned of_parameter p xs ∷ stack) q s
 words_ended of_member p xs stack q s =
     step_pointing only_named q no_pointers (OwnedMembers p xs no_declarators ∷ stack) q s
+words_ended of_declaration p xs stack q s = declaration_words s p xs stack q
 
 -- a token after at least one specifier
 abbrev pub step_words : Owner → Place → Specifiers → List Frame → Place → Symbol → Option Taken
@@ -655,6 +754,115 @@ abbrev pub step_enumerator_name : Place → List ℕ → List Frame → Symbol �
 step_enumerator_name p n stack (sign s) = enumerator_named stack p n s
 step_enumerator_name p n stack _ = None
 
+------ initialisers
+
+-- a token before an initialiser (6.7.8)
+abbrev pub step_initializer : List Frame → Place → Symbol → Option Taken
+step_initializer stack q (sign puncts.LeftBrace) =
+    loosely (state (Braces q no_initializers ∷ stack) BracesStart) (suc (depth stack))
+step_initializer stack q s = operand_at stack q s
+
+-- the `}` after a last comma, with at least one initialiser (6.7.8)
+abbrev pub braces_ended : List Frame → Option Taken
+braces_ended (Braces q (then_initializer xs p g x) ∷ stack) =
+    loosely (state stack (AfterInitializer (in_braces q (then_initializer xs p g x) true)))
+    (suc (depth stack))
+braces_ended _ = None
+
+-- a token before a designation or an initialiser in braces, or the `}` (6.7.8)
+abbrev pub step_braces : List Frame → Place → Symbol → Option Taken
+step_braces stack q (sign puncts.LeftBracket) =
+    loosely (want (Index q ∷ stack)) (suc (depth stack))
+step_braces stack q (sign puncts.Dot) = loosely (state stack (AfterDot q)) (depth stack)
+step_braces stack q (sign puncts.RightBrace) = braces_ended stack
+step_braces stack q s = step_initializer (Designated no_designation ∷ stack) q s
+
+-- the member's name after the `.` of a designator (6.7.8)
+abbrev pub step_dot : Place → List Frame → Symbol → Option Taken
+step_dot p stack (name n) =
+    loosely (state stack (AfterDesignator (of_member p n))) (depth stack)
+step_dot p stack _ = None
+
+-- the `=` after a designator (6.7.8)
+abbrev pub step_designator : Designation → List Frame → Symbol → Option Taken
+step_designator g stack (sign puncts.Equal) =
+    loosely (state (Designated g ∷ stack) InitializerStart) (depth stack)
+step_designator g stack _ = None
+
+-- a token after an initialiser in braces (6.7.8)
+abbrev pub step_initialized : List Frame → Initializer → Symbol → Option Taken
+step_initialized stack x (sign s) = initialized_at stack x s
+step_initialized stack x _ = None
+
+------ elements
+
+-- one of the terminals that an element fixes
+abbrev pub fixed_at : Fixed → Standing → Spot → Symbol → Option Taken
+fixed_at e s x t = cond (meets e t) (loosely (spot s x) 0) None
+
+-- an expression that may be missing
+abbrev pub optional_at : Standing → Optional → Place → Symbol → Option Taken
+optional_at s c q t =
+    cond (meets (closer (optional c)) t) (loosely (spot s (after_optional c None)) 0)
+    (operand_at (Statement s (optional c) ∷ []) q t)
+
+-- after all terminals before an expression
+abbrev pub opened : Standing → List Fixed → Part → State
+opened s [] c = want (Statement s c ∷ [])
+opened s (e ∷ es) c = spot s (Opening (e ∷ es) c)
+
+-- the first token of a statement (6.8)
+abbrev pub statement_at : Standing → Place → Symbol → Option Taken
+statement_at s q (keyword keywords.Case) = loosely (want (Statement s (of_case q) ∷ [])) 0
+statement_at s q (keyword keywords.Default) =
+    loosely (spot s (Await (the_colon ∷ the_hole ∷ []) (hollow_default q 0))) 0
+statement_at s q (keyword keywords.If) = loosely (spot s (Opening (the_opening ∷ []) (of_if q))) 0
+statement_at s q (keyword keywords.Switch) =
+    loosely (spot s (Opening (the_opening ∷ []) (of_switch q))) 0
+statement_at s q (keyword keywords.While) =
+    loosely (spot s (Opening (the_opening ∷ []) (of_while q))) 0
+statement_at s q (keyword keywords.Do) =
+    loosely (spot s (Opening (the_hole ∷ the_while ∷ the_opening ∷ []) (of_do q))) 0
+statement_at s q (keyword keywords.For) = loosely (spot s (ForOpening q)) 0
+statement_at s q (keyword keywords.Continue) =
+    loosely (spot s (Await (the_semicolon ∷ []) (hollow_continue q))) 0
+statement_at s q (keyword keywords.Break) =
+    loosely (spot s (Await (the_semicolon ∷ []) (hollow_break q))) 0
+statement_at s q (keyword keywords.Return) = loosely (spot s (Before (of_return q))) 0
+statement_at s q (sign puncts.LeftBrace) =
+    loosely (spot s (Await (the_hole ∷ the_right_brace ∷ []) (hollow_compound q 0))) 0
+statement_at s q (sign puncts.Semicolon) =
+    loosely (spot s (Await [] (hollow_expression q None))) 0
+statement_at s q t = operand_at (Statement s of_expression ∷ []) q t
+
+-- a lone `;` at file scope, which is an external declaration of the profile (6.9)
+abbrev pub lone_at : Place → Symbol → Option Taken
+lone_at q (sign puncts.Semicolon) = loosely (spot External (Await [] (hollow_empty q))) 0
+lone_at q t = None
+
+-- the first token of an element
+abbrev pub start_at : Standing → Place → Symbol → Option Taken
+start_at External q t =
+    first_word of_declaration (Declares External alone ∷ []) q t (lone_at q t)
+start_at Item q t =
+    first_word of_declaration (Declares Item alone ∷ []) q t (statement_at Item q t)
+start_at Nested q t = statement_at Nested q t
+
+-- a token in an element's own production
+abbrev pub step_spot : Standing → Spot → Place → Symbol → Option Taken
+step_spot s Start q t = start_at s q t
+step_spot s (Await [] k) q t = None
+step_spot s (Await (e ∷ es) k) q t = fixed_at e s (Await es k) t
+step_spot s (Opening [] c) q t = None
+step_spot s (Opening (e ∷ es) c) q t = cond (meets e t) (loosely (opened s es c) 0) None
+step_spot s (AfterIf p a) q t = fixed_at the_hole s (MayElse p a) t
+step_spot s (MayElse p a) q t =
+    fixed_at the_else s (Await (the_hole ∷ []) (hollow_if_else p a 0 1)) t
+step_spot s (ForOpening p) q t = fixed_at the_opening s (ForStart p) t
+step_spot s (ForStart p) q t =
+    first_word of_declaration (Declares s (in_for p) ∷ []) q t (optional_at s (for_first p) q t)
+step_spot s (Before c) q t = optional_at s c q t
+
 ------ all
 
 -- a token, by where the machine is; None where no derivation can have it there
@@ -677,6 +885,12 @@ step_at stack (Bracket m p ps c ss b qs) q s = step_bracket m p ps c ss b qs sta
 step_at stack (ParametersStart m p ps c ss b) q s = step_parameters m p ps c ss b stack q s
 step_at stack ParameterNext q s = first_word of_parameter stack q s (ellipsis_at stack s)
 step_at stack AfterEllipsis q s = step_ellipsis stack s
+step_at stack InitializerStart q s = step_initializer stack q s
+step_at stack BracesStart q s = step_braces stack q s
+step_at stack (AfterDot p) q s = step_dot p stack s
+step_at stack (AfterDesignator g) q s = step_designator g stack s
+step_at stack (AfterInitializer x) q s = step_initialized stack x s
+step_at stack (AtSpot x y) q s = step_spot x y q s
 
 -- what a token with its place does
 abbrev pub step : State → Token → Option Taken
@@ -699,3 +913,24 @@ finished_at stack _ = None
 -- the tree, if the tokens may end here
 abbrev pub finished : State → Option Expr
 finished m = finished_at m.stack m.at
+
+------ elements as a whole
+
+-- the machine before an element
+abbrev pub begin : Standing → State
+begin s = spot s Start
+
+-- the skeleton, by where the machine is in an element
+abbrev pub whole_at : Spot → Option Skeleton
+whole_at (Await [] k) = Some k
+whole_at (MayElse p a) = Some (hollow_if p a 0)
+whole_at _ = None
+
+-- the skeleton, by where the machine is
+abbrev pub element_at : At → Option Skeleton
+element_at (AtSpot s x) = whole_at x
+element_at _ = None
+
+-- the skeleton, if the tokens of the element may end here
+abbrev pub finished_element : State → Option Skeleton
+finished_element m = element_at m.at

@@ -1,6 +1,6 @@
--- How a block's bytes are kept: a cell for each byte that was written or lies before one, and beside
--- the cells the numbers and offsets of pointers, as far as there are any. What lies beyond is
--- indeterminate.
+-- How a block's bytes are kept: a cell for each byte that was written or lies before one, and
+-- beside the cells the numbers and offsets of pointers, as far as there are any. What lies beyond
+-- is indeterminate.
 use Rattle.std.specs.Prelude.{ℕ, ℤ, pos, List, map, None, Some}
 use Rattle.std.specs.List.{range_with_len, slice_index_or}
 use Rattle.hv_mem.specs.declared.cells.Cell.{Cell}
@@ -16,7 +16,8 @@ byte_of (forms.Number n) number offset = bytes.Number n
 byte_of (forms.NullPart index) number offset =
     bytes.Part (ToObject (record { block = None; offset = offset })) index
 byte_of (forms.ObjectPart index) number offset =
-    bytes.Part (ToObject (record { block = Some (record { index = number }); offset = offset })) index
+    bytes.Part
+    (ToObject (record { block = Some (record { index = number }); offset = offset })) index
 byte_of (forms.FunctionPart index) number offset = bytes.Part (ToFunction number) index
 
 -- the byte at an index

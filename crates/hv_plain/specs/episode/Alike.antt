@@ -25,10 +25,12 @@ pub data Alike : List ℕ → List ℕ → Type 0 where
   end : Alike [] []
   next : {b c : ℕ} {x y : List ℕ} → AlikeByte b c → Alike x y → Alike (b ∷ x) (c ∷ y)
 
+-- a text differs from itself at most in such digits
 pub alike_refl : (x : List ℕ) → Alike x x
 alike_refl [] = end
 alike_refl (b ∷ x) = next (same b) (alike_refl x)
 
+-- texts that differ at most so, after texts that do
 pub alike_append : {x y v w : List ℕ} → Alike x y → Alike v w → Alike (x ++ v) (y ++ w)
 alike_append end q = q
 alike_append (next b p) q = next b (alike_append p q)
@@ -39,15 +41,18 @@ byte_alike f h (same b) = refl
 byte_alike f h zero_one = h
 byte_alike f h one_zero = sym h
 
+-- they are of one length
 pub length_alike : {x y : List ℕ} → Alike x y → length x ≡ length y
 length_alike end = refl
 length_alike (next b p) = ap suc (length_alike p)
 
+-- what is left of them after so many bytes differs at most so, too
 pub drop_alike : (n : ℕ) → {x y : List ℕ} → Alike x y → Alike (drop n x) (drop n y)
 drop_alike zero p = p
 drop_alike (suc n) end = end
 drop_alike (suc n) (next b p) = drop_alike n p
 
+-- a test that says the same of `0` and of `1` holds of all bytes of both, or of neither's
 pub all_alike : (f : ℕ → Bool) → f 48 ≡ f 49 → {x y : List ℕ} → Alike x y
     → list_all f x ≡ list_all f y
 all_alike f h end = refl
@@ -55,6 +60,7 @@ all_alike f h (next {b = b} {c = c} {x = x} {y = y} q p) =
     ap (λ (v : Bool). v && list_all f x) (byte_alike f h q)
     ∙ ap (λ (v : Bool). f c && v) (all_alike f h p)
 
+-- a test that says the same of `0` and of `1` holds of a byte of both, or of neither's
 pub any_alike : (f : ℕ → Bool) → f 48 ≡ f 49 → {x y : List ℕ} → Alike x y
     → list_any f x ≡ list_any f y
 any_alike f h end = refl
@@ -145,6 +151,8 @@ punctuator_alike _ _ (next q (next r (next s (next t p)))) = refl
 
 ------ cutting (5.1.1.2)
 
+-- the length of the longest prefix that passes, by that of the longest after the first byte, zero
+-- where there is none, and by whether the first byte passes alone
 abbrev longest_more : ℕ → Bool → ℕ
 longest_more n one = elim n [ zero ↦ cond one 1 0 | suc more ↦ suc (suc more) ]
 
@@ -216,6 +224,8 @@ line_len_alike (next {b = b} {c = c} {x = x} {y = y} q p) =
     ap (λ (v : Bool). cond v 0 (1 + line_len x)) (ends_line_alike (b ∷ x) (c ∷ y) (next q p))
     ∙ ap (λ n. cond (ends_line (c ∷ y)) 0 (1 + n)) (line_len_alike p)
 
+-- the length up to and with the first `*/`, by whether it stands here, and by that length after the
+-- first byte; zero where there is none (6.4.9)
 abbrev closing_more : Bool → ℕ → ℕ
 closing_more here n = cond here 2 (elim n [ zero ↦ 0 | suc m ↦ suc (suc m) ])
 
@@ -226,6 +236,8 @@ closing_len_alike (next {b = b} {c = c} {x = x} {y = y} q p) =
     (starts_alike (codes "*/") (refl, (refl, tt)) (next q p))
     ∙ ap (closing_more (starts_with nat_eq (c ∷ y) (codes "*/"))) (closing_len_alike p)
 
+-- a comment's prefix, by the length after its `/*` up to and with its `*/`; zero where there is
+-- none (6.4.9)
 abbrev comment_of : ℕ → Prefix
 comment_of n = elim n [ zero ↦ OpenComment | suc m ↦ Comment (2 + suc m) ]
 

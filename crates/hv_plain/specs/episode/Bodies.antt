@@ -15,6 +15,7 @@ pub data Operand : Type 0 where
   -- `#` and a parameter (6.10.3.2); the white space is that before the `#`
   string : (index : ℕ) → (space : Bool) → Operand
 
+-- a part of a replacement list, as substitution treats it (6.10.3.1 to 6.10.3.3)
 pub data Part : Type 0 where
   -- a parameter that stands neither beside `##` nor after `#` (6.10.3.1)
   expanded : (index : ℕ) → (space : Bool) → Part
@@ -48,6 +49,7 @@ pub data Before : Type 0 where
   a_part : Before
   a_paste : Before
 
+-- whether a token is spelled `##` (6.10.3.3)
 abbrev pub is_paste : PpTok → Bool
 is_paste t = bytes_eq t.text (codes "##")
 

@@ -26,6 +26,7 @@ abbrev pub question : PpTok → (more : ℕ) → Option Question
 question t more = elim (is_identifier t.kind)
     [ true ↦ Some (record { name = t.text; more = more }) | false ↦ None ]
 
+-- whether a token is spelled like this
 abbrev pub has_text : PpTok → List ℕ → Bool
 has_text t text = bytes_eq t.text text
 

@@ -24,6 +24,7 @@ pub data Next : Type 0 where
   otherwise : Next
   directive : Next
 
+-- what follows, where the next token is this to an invocation
 abbrev pub next_mark : Mark → Next
 next_mark opening = parenthesis
 next_mark closing = otherwise
@@ -78,6 +79,7 @@ deed_at ends t tokens frames macro =
 
 ------ what follows
 
+-- how far an expansion is: a token is next, all is given, or it is refused
 pub data State : Type 0 where
   -- this token is next, and stands before those of the text. The frames are the substitutions that
   -- wait for the text, the innermost first
@@ -140,6 +142,7 @@ invoke ends t s frames body (Some taken) = elim (takes body taken.arguments) [
   | false ↦ refused BadInvocation
 ]
 
+-- the tokens after the first
 abbrev pub tail : List Token → List Token
 tail [] = []
 tail (t ∷ tokens) = tokens
@@ -159,12 +162,14 @@ after ends t s frames stop = refused DirectiveInArguments
 
 ------ events
 
+-- an event of an episode: a macro is used, or a token is given
 pub data Event : Type 0 where
   -- the definition that is made at this place was used
   uses : Place → Event
   -- a token of this kind and spelling was given, by the episode or by the expansion of an argument
   gives : PpKind → List ℕ → Event
 
+-- the events of a deed with this token; a refusal is none
 abbrev pub events : Token → Deed → List Event
 events t give = gives t.kind t.text ∷ []
 events t (use_macro place body) = uses place ∷ []
@@ -180,9 +185,11 @@ pub record Episode : Type 0 where
   pub face : List Event
   pub result : Result
 
+-- an expansion with these events before its own
 abbrev pub adding : List Event → Episode → Episode
 adding before e = record { face = before ++ e.face; result = e.result }
 
+-- an expansion without events
 abbrev pub ended : Result → Episode
 ended result = record { face = []; result = result }
 

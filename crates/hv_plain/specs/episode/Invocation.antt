@@ -12,6 +12,7 @@ pub data Mark : Type 0 where
   comma : Mark
   none : Mark
 
+-- what a token of this spelling is to an invocation
 abbrev pub mark : List ℕ → Mark
 mark text = elim (bytes_eq text (codes "(")) [
   | true ↦ opening

@@ -79,6 +79,7 @@ argument [] i = []
 argument (tokens ∷ arguments) zero = tokens
 argument (tokens ∷ arguments) (suc i) = argument arguments i
 
+-- whether white space stands before an operand
 abbrev pub space_of : Operand → Bool
 space_of (token s) = s.space
 space_of (parameter i space) = space

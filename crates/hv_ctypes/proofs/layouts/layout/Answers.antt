@@ -22,10 +22,4 @@ returns-clause-value c =
 
 pub returns-clause-whole : goal.returns-clause-whole
 returns-clause-whole c =
-    let of = layouts_in (compounds_of c.args.types.now) in
-    let plain_type = type_of c.args.t.now in
-    let e : c.match-innermost.of ≡ layouts.within_limit (option_and_then of (innermost plain_type)) =
-    elim c.match-innermost.branch [ in-Some w ↦ search rules | in-None w ↦ search rules ] in
-    let r : c.layout_around.result ≡ layouts.within_limit (layouts.layout_by (λ _. c.match-innermost.of) plain_type) =
-    search rules in
-    rw (r ∙ around_all of plain_type c.match-innermost.of e) (layout_whole (compounds_of c.args.types.now) plain_type)
+    rw (returns-clause-value c) (layout_whole (compounds_of c.args.types.now) (type_of c.args.t.now))

@@ -1,0 +1,3 @@
+-- What the code goes through, for private contracts and proofs.
+pub mod Kinds
+pub mod Scanning
