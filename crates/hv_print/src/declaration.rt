@@ -72,11 +72,7 @@ fn print_init_declarator(
 
 /// Adds an initialiser (6.7.8).
 #[cycle(initializer)]
-fn print_initializer(
-    alloc: Global,
-    out: &mut Text,
-    initializer: &Initializer,
-) -> Result<(), Memory>
+fn print_initializer(alloc: Global, out: &mut Text, initializer: &Initializer) -> Result<(), Memory>
     ensures { OnOk result
         (out.new ≡ out.old ++ printed (initializer_tokens (initializer_of initializer.now))) }
 {
@@ -134,11 +130,7 @@ fn print_item(alloc: Global, out: &mut Text, item: &InitializerItem) -> Result<(
 }
 
 /// Adds what an initialiser is for, with its `=` (6.7.8).
-fn print_designation(
-    alloc: Global,
-    out: &mut Text,
-    designator: &Designator,
-) -> Result<(), Memory>
+fn print_designation(alloc: Global, out: &mut Text, designator: &Designator) -> Result<(), Memory>
     ensures { OnOk result
         (out.new ≡ out.old ++ printed (designation_tokens (designation_of designator.now))) }
 {

@@ -157,11 +157,7 @@ fn print_direct_abstract(
 
 /// Adds what stands after a direct declarator (6.7.5).
 #[cycle(phrase)]
-fn print_suffixes(
-    alloc: Global,
-    out: &mut Text,
-    suffixes: &List<Rc<Suffix>>,
-) -> Result<(), Memory>
+fn print_suffixes(alloc: Global, out: &mut Text, suffixes: &List<Rc<Suffix>>) -> Result<(), Memory>
     ensures { OnOk result
         (out.new ≡ out.old ++ printed (suffixes_tokens (suffixes_of suffixes.now))) }
 {
@@ -183,7 +179,9 @@ fn print_suffix(alloc: Global, out: &mut Text, suffix: &Suffix) -> Result<(), Me
             put_punct(out, Punct::RightBracket)
         }
         Suffix::Sized {
-            qualifiers, length, ..
+            qualifiers,
+            length,
+            ..
         } => {
             put_punct(out, Punct::LeftBracket)?;
             put_qualifiers(out, qualifiers)?;

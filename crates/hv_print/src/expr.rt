@@ -60,7 +60,9 @@ pub(crate) fn print_expr(alloc: Global, out: &mut Text, expr: &Expr) -> Result<(
         Expr::PreIncrement { operand, .. } => print_after(alloc, out, Punct::PlusPlus, operand),
         Expr::PreDecrement { operand, .. } => print_after(alloc, out, Punct::MinusMinus, operand),
         Expr::Unary {
-            operator, operand, ..
+            operator,
+            operand,
+            ..
         } => print_after(alloc, out, unary_sign(*operator), operand),
         Expr::SizeofExpr { operand, .. } => {
             put_keyword(out, Keyword::Sizeof)?;
@@ -127,12 +129,7 @@ pub(crate) fn print_before(
 
 /// Adds an operator and the expression after it (6.5.3).
 #[cycle(phrase)]
-fn print_after(
-    alloc: Global,
-    out: &mut Text,
-    sign: Punct,
-    operand: &Expr,
-) -> Result<(), Memory>
+fn print_after(alloc: Global, out: &mut Text, sign: Punct, operand: &Expr) -> Result<(), Memory>
     ensures { OnOk result
         (out.new ≡ out.old ++ printed (symbols.sign sign ∷ tokens_of (expr_of operand.now))) }
 {
@@ -207,11 +204,7 @@ fn infix_sign(expr: &Expr) -> Punct
 
 /// Adds the arguments of a call, with commas between them (6.5.2).
 #[cycle(phrase)]
-fn print_arguments(
-    alloc: Global,
-    out: &mut Text,
-    arguments: &List<Rc<Expr>>,
-) -> Result<(), Memory>
+fn print_arguments(alloc: Global, out: &mut Text, arguments: &List<Rc<Expr>>) -> Result<(), Memory>
     ensures { OnOk result
         (out.new ≡ out.old ++ printed (arguments_tokens (arguments_of arguments.now))) }
 {

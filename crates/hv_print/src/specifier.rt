@@ -125,7 +125,10 @@ fn print_compound(
 {
     match compound {
         StructOrUnionSpecifier::Defined {
-            kind, tag, members, ..
+            kind,
+            tag,
+            members,
+            ..
         } => {
             put_keyword(out, compound_word(*kind))?;
             put_tag(out, tag)?;
@@ -214,7 +217,9 @@ fn print_enumeration(
 {
     match enumeration {
         EnumSpecifier::Listed {
-            tag, enumerators, ..
+            tag,
+            enumerators,
+            ..
         } => {
             put_keyword(out, Keyword::Enum)?;
             put_tag(out, tag)?;
@@ -223,7 +228,9 @@ fn print_enumeration(
             put_punct(out, Punct::RightBrace)
         }
         EnumSpecifier::ListedComma {
-            tag, enumerators, ..
+            tag,
+            enumerators,
+            ..
         } => {
             put_keyword(out, Keyword::Enum)?;
             put_tag(out, tag)?;

@@ -44,7 +44,10 @@ pub(crate) fn print_stmt(alloc: Global, out: &mut Text, stmt: &Stmt) -> Result<(
             print_stmt(alloc, out, body)
         }
         Stmt::IfElse {
-            test, body, other, ..
+            test,
+            body,
+            other,
+            ..
         } => {
             print_head(alloc, out, Keyword::If, test)?;
             print_stmt(alloc, out, body)?;
@@ -103,12 +106,7 @@ pub(crate) fn print_stmt(alloc: Global, out: &mut Text, stmt: &Stmt) -> Result<(
 }
 
 /// Adds the word of a statement and the expression after it in parentheses (6.8.4, 6.8.5).
-fn print_head(
-    alloc: Global,
-    out: &mut Text,
-    word: Keyword,
-    test: &Expr,
-) -> Result<(), Memory>
+fn print_head(alloc: Global, out: &mut Text, word: Keyword, test: &Expr) -> Result<(), Memory>
     ensures { OnOk result
         (out.new ≡ out.old
         ++ printed (symbols.keyword word ∷ symbols.left_paren

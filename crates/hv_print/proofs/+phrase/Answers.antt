@@ -42,20 +42,36 @@ specifier::print_enumeration-returns-in_ok-put_punct-in-ListedComma-2 t c =
 
 pub declarator::print_declarator-returns : goal.declarator::print_declarator-returns
 declarator::print_declarator-returns t c =
-    grind (arith, printing, ap (λ x. printed (declarator_tokens x))
-    (declarator_parts c.args.declarator.now c.suffixes-1.given.0 c.pointers-1.given.0 c.direct-1.given.0 c.suffixes-1.given.0))
+    grind (
+      arith,
+      printing,
+      ap (λ x. printed (declarator_tokens x))
+          (declarator_parts c.args.declarator.now c.suffixes-1.given.0 c.pointers-1.given.0 c.direct-1.given.0 c.suffixes-1.given.0),
+    )
 
 pub declarator::print_abstract-returns : goal.declarator::print_abstract-returns
 declarator::print_abstract-returns t c =
-    grind (arith, printing, ap (λ x. printed (declarator_tokens x))
-    (abstract_parts c.args.declarator.now c.suffixes-1.given.0 c.pointers-1.given.0 c.direct-1.given.0 c.suffixes-1.given.0))
+    grind (
+      arith,
+      printing,
+      ap (λ x. printed (declarator_tokens x))
+          (abstract_parts c.args.declarator.now c.suffixes-1.given.0 c.pointers-1.given.0 c.direct-1.given.0 c.suffixes-1.given.0),
+    )
 
 pub expr::print_type_name-returns : goal.expr::print_type_name-returns
 expr::print_type_name-returns t c =
-    grind (arith, printing, ap (λ x. printed (type_name_tokens x))
-    (type_name_parts c.args.name.now c.specifiers-1.given.0 c.specifiers-1.given.0 c.declarator-1.given.0))
+    grind (
+      arith,
+      printing,
+      ap (λ x. printed (type_name_tokens x))
+          (type_name_parts c.args.name.now c.specifiers-1.given.0 c.specifiers-1.given.0 c.declarator-1.given.0),
+    )
 
 pub specifier::print_member-returns : goal.specifier::print_member-returns
 specifier::print_member-returns t c =
-    grind (arith, printing, ap (λ x. printed (member_tokens x))
-    (member_parts c.args.member.now c.specifiers-1.given.0 c.specifiers-1.given.0 c.declarators-1.given.0))
+    grind (
+      arith,
+      printing,
+      ap (λ x. printed (member_tokens x))
+          (member_parts c.args.member.now c.specifiers-1.given.0 c.specifiers-1.given.0 c.declarators-1.given.0),
+    )
