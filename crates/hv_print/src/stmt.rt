@@ -2,10 +2,11 @@
 #![tactic(auto, using(crate::proofs::StatementSteps::statement_steps))]
 
 ghost use Rattle.std.specs.Prelude.{◌≡◌, [], ◌∷◌, ◌++◌, OnOk};
+ghost use Rattle.hv_base.specs.declared.keyword.Keyword.TheVariants as keywords;
 ghost use Rattle.hv_ctree.specs.tree.Erase.{expr_of};
-ghost use Rattle.hv_ctree.specs.tree.EraseStatements.{may_expr_of, stmt_of, item_of, items_of};
+ghost use Rattle.hv_ctree.specs.tree.EraseStatements.{declaration_of, may_expr_of, stmt_of, item_of, items_of};
 ghost use Rattle.hv_grammar.specs.Symbols as symbols;
-ghost use Rattle.hv_grammar.specs.Tokens.{tokens_of, option_tokens};
+ghost use Rattle.hv_grammar.specs.Tokens.{tokens_of, option_tokens, declaration_tokens};
 ghost use Rattle.hv_print.specs.ProgramTokens.{statement_tokens, items_tokens, item_tokens};
 ghost use Rattle.hv_print.specs.working.Printed.{printed};
 
@@ -13,7 +14,7 @@ use crate::declaration::print_declaration;
 use crate::expr::print_before;
 use crate::token::{put_keyword, put_punct};
 use hv_base::{Keyword, List, Memory, Punct, Text};
-use hv_ctree::{BlockItem, Expr, Stmt};
+use hv_ctree::{BlockItem, Declaration, Expr, Stmt};
 use std::alloc::Global;
 use std::rc::Rc;
 
@@ -75,11 +76,7 @@ pub(crate) fn print_stmt(alloc: Global, out: &mut Text, stmt: &Stmt) -> Result<(
             body,
             ..
         } => {
-            put_keyword(out, Keyword::For)?;
-            put_punct(out, Punct::LeftParenthesis)?;
-            print_part(alloc, out, first, Punct::Semicolon)?;
-            print_part(alloc, out, test, Punct::Semicolon)?;
-            print_part(alloc, out, step, Punct::RightParenthesis)?;
+            print_for(alloc, out, first, test, step)?;
             print_stmt(alloc, out, body)
         }
         Stmt::ForDeclaration {
@@ -89,11 +86,7 @@ pub(crate) fn print_stmt(alloc: Global, out: &mut Text, stmt: &Stmt) -> Result<(
             body,
             ..
         } => {
-            put_keyword(out, Keyword::For)?;
-            put_punct(out, Punct::LeftParenthesis)?;
-            print_declaration(alloc, out, first)?;
-            print_part(alloc, out, test, Punct::Semicolon)?;
-            print_part(alloc, out, step, Punct::RightParenthesis)?;
+            print_for_declaration(alloc, out, first, test, step)?;
             print_stmt(alloc, out, body)
         }
         Stmt::Continue { .. } => put_jump(out, Keyword::Continue),
@@ -115,6 +108,64 @@ fn print_head(alloc: Global, out: &mut Text, word: Keyword, test: &Expr) -> Resu
     put_keyword(out, word)?;
     put_punct(out, Punct::LeftParenthesis)?;
     print_before(alloc, out, test, Punct::RightParenthesis)
+}
+
+/// Adds what stands before the body of a `for` statement without a declaration (6.8.5.3).
+fn print_for(
+    alloc: Global,
+    out: &mut Text,
+    first: &Option<Rc<Expr>>,
+    test: &Option<Rc<Expr>>,
+    step: &Option<Rc<Expr>>,
+) -> Result<(), Memory>
+    ensures { OnOk result
+        (out.new ≡ out.old
+        ++ printed (symbols.keyword keywords.For ∷ symbols.left_paren
+        ∷ (option_tokens (may_expr_of first.now) ++ symbols.semicolon
+        ∷ (option_tokens (may_expr_of test.now) ++ symbols.semicolon
+        ∷ (option_tokens (may_expr_of step.now) ++ symbols.right_paren ∷ []))))) }
+{
+    put_keyword(out, Keyword::For)?;
+    put_punct(out, Punct::LeftParenthesis)?;
+    print_part(alloc, out, first, Punct::Semicolon)?;
+    print_turns(alloc, out, test, step)
+}
+
+/// Adds what stands before the body of a `for` statement with a declaration (6.8.5.3).
+fn print_for_declaration(
+    alloc: Global,
+    out: &mut Text,
+    first: &Declaration,
+    test: &Option<Rc<Expr>>,
+    step: &Option<Rc<Expr>>,
+) -> Result<(), Memory>
+    ensures { OnOk result
+        (out.new ≡ out.old
+        ++ printed (symbols.keyword keywords.For ∷ symbols.left_paren
+        ∷ (declaration_tokens (declaration_of first.now)
+        ++ (option_tokens (may_expr_of test.now) ++ symbols.semicolon
+        ∷ (option_tokens (may_expr_of step.now) ++ symbols.right_paren ∷ []))))) }
+{
+    put_keyword(out, Keyword::For)?;
+    put_punct(out, Punct::LeftParenthesis)?;
+    print_declaration(alloc, out, first)?;
+    print_turns(alloc, out, test, step)
+}
+
+/// Adds the second and the third part of a `for` statement, with its `)`.
+fn print_turns(
+    alloc: Global,
+    out: &mut Text,
+    test: &Option<Rc<Expr>>,
+    step: &Option<Rc<Expr>>,
+) -> Result<(), Memory>
+    ensures { OnOk result
+        (out.new ≡ out.old
+        ++ printed (option_tokens (may_expr_of test.now) ++ symbols.semicolon
+        ∷ (option_tokens (may_expr_of step.now) ++ symbols.right_paren ∷ []))) }
+{
+    print_part(alloc, out, test, Punct::Semicolon)?;
+    print_part(alloc, out, step, Punct::RightParenthesis)
 }
 
 /// Adds an expression, if there is one, and the sign that ends it.
