@@ -1,5 +1,5 @@
--- The tokens of statements, external declarations and programs, in the order of the text (6.8, 6.9).
--- Those of expressions, declarators and declarations are in hv_grammar's `Tokens`.
+-- The tokens of statements, external declarations and programs, in the order of the text (6.8,
+-- 6.9). Those of expressions, declarators and declarations are in hv_grammar's `Tokens`.
 use Rattle.std.specs.Prelude.{List, [], ◌∷◌, ◌++◌}
 use Rattle.hv_base.specs.declared.keyword.Keyword.TheVariants as keywords
 use Rattle.hv_ctree.specs.tree.Statements.{Stmt, case_of, default_of, compound, expression, if_only, if_else, switch, while_do, do_while, for_expressions, for_declaration, continue_loop, break_out, return_with, Items, no_items, then_item, Item, declares, does, FunctionDefinition, function_definition, External, defines, declares_outside, empty, Program}

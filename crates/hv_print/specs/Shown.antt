@@ -36,8 +36,8 @@ abbrev pub constant_token : Constant → CTok
 constant_token (Integer v k) = Int v k
 constant_token (Character v) = Char v
 
--- the C token that a terminal is, without the mark of a typedef name; a hole is none, and neither is
--- a name that the grammar doesn't know
+-- the C token that a terminal is, without the mark of a typedef name; a hole is none, and neither
+-- is a name that the grammar doesn't know
 abbrev pub token_of : Symbol → List CTok
 token_of (keyword k) = Keyword k ∷ []
 token_of (name n) = Name n ∷ []

@@ -38,7 +38,8 @@ fn print_init_declarators(
 ) -> Result<(), Memory>
     ensures { OnOk result
         (out.new ≡ out.old
-        ++ printed (init_declarators_tokens (init_declarators_after plain.no_init_declarators declarators.now))) }
+        ++ printed (init_declarators_tokens
+        (init_declarators_after plain.no_init_declarators declarators.now))) }
 {
     for (index, declarator) in declarators.as_slice().iter().enumerate() {
         put_comma_before(out, index)?;
@@ -54,7 +55,8 @@ fn print_init_declarator(
     declarator: &InitDeclarator,
 ) -> Result<(), Memory>
     ensures { OnOk result
-        (out.new ≡ out.old ++ printed (init_declarator_tokens (init_declarator_of declarator.now))) }
+        (out.new ≡ out.old
+        ++ printed (init_declarator_tokens (init_declarator_of declarator.now))) }
 {
     match declarator {
         InitDeclarator::Plain { declarator, .. } => print_declarator(alloc, out, declarator),

@@ -1,5 +1,5 @@
-//! Trees and tokens of C as text: each token in its spelling by value, then a newline after `;`, `{`
-//! and `}`, else one space.
+//! Trees and tokens of C as text: each token in its spelling by value, then a newline after `;`,
+//! `{` and `}`, else one space.
 #![tactic(auto)]
 
 mod declaration;

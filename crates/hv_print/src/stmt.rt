@@ -176,7 +176,8 @@ fn print_part(
     end: Punct,
 ) -> Result<(), Memory>
     ensures { OnOk result
-        (out.new ≡ out.old ++ printed (option_tokens (may_expr_of part.now) ++ symbols.sign end ∷ [])) }
+        (out.new ≡ out.old
+        ++ printed (option_tokens (may_expr_of part.now) ++ symbols.sign end ∷ [])) }
 {
     match part {
         Some(expr) => print_before(alloc, out, expr, end),

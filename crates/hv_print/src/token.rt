@@ -10,8 +10,8 @@ use hv_ctoks::spell;
 use hv_ctree::Constant;
 use std::alloc::Global;
 
-/// The printed form of tokens: each in its spelling, then a newline after `;`, `{` and `}`, else one
-/// space.
+/// The printed form of tokens: each in its spelling, then a newline after `;`, `{` and `}`, else
+/// one space.
 pub fn print_tokens(alloc: Global, tokens: &[CTok]) -> Result<Text, Memory>
     ensures { IfOk result (λ text. text ≡ shown tokens.now) }
 {
