@@ -1,0 +1,9 @@
+pub mod FillLemmas
+pub mod ListsLemmas
+pub mod PartsLemmas
+pub mod PhraseSteps
+pub mod PrintedLemmas
+pub mod SpeltLemmas
+pub mod StatementListsLemmas
+pub mod StatementSteps
+pub mod TokensLemmas
