@@ -15,6 +15,3 @@ mod word;
 pub use laws::keeps_tokens;
 pub use program::print;
 pub use token::print_tokens;
-
-#[cfg(test)]
-mod tests;
