@@ -1,7 +1,6 @@
 //! One preprocessing token to a C token, and a C token to its spelling.
 #![tactic(auto)]
 
-mod character;
 mod conversion;
 mod fault;
 mod floating;

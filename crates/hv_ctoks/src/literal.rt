@@ -3,8 +3,8 @@ ghost use Rattle.std.specs.Prelude.{◌≡◌, ◌≤◌, ◌<◌, ◌+◌, leng
 ghost use Rattle.std.specs.List.{prefix_len};
 ghost use Rattle.hv_toks.specs.Constants as constants;
 
-use crate::character::{character, is_hexadecimal, is_octal};
 use hv_base::{List, Memory, Text};
+use hv_toks::{character, is_hexadecimal, is_octal};
 use std::alloc::Global;
 
 /// How many hexadecimal digits the text begins with.

@@ -51,8 +51,9 @@ fn as_byte(value: u64) -> Option<u8>
     if value < 256 { Some(value as u8) } else { None }
 }
 
-/// The byte that one character between quotes means.
-fn character(quote: u8, text: &[u8]) -> Option<u8>
+/// The byte that one character between quotes means (6.4.4.4, 6.4.5), or `None` where the text is
+/// no such character.
+pub fn character(quote: u8, text: &[u8]) -> Option<u8>
     ensures { result ≡ constants.character quote text.now }
 {
     match text {

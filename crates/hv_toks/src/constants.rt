@@ -56,6 +56,20 @@ pub(crate) fn digit(byte: u8) -> u64
     }
 }
 
+/// Whether the byte is an octal digit.
+pub fn is_octal(byte: u8) -> bool
+    ensures { result ≡ constants.is_octal byte }
+{
+    digit(byte) < 8
+}
+
+/// Whether the byte is a hexadecimal digit.
+pub fn is_hexadecimal(byte: u8) -> bool
+    ensures { result ≡ constants.is_hexadecimal byte }
+{
+    digit(byte) < 16
+}
+
 /// The number with one more digit, if it is one of the base and the number fits.
 fn with_digit(base: u64, number: u64, byte: u8) -> Option<u64>
     requires { base ≤ 16 }

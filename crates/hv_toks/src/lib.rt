@@ -10,8 +10,8 @@ mod prefix;
 mod stream;
 mod token;
 
-pub use characters::read_char_constant;
-pub use constants::{Integer, Rank, read_int_constant, read_integer};
+pub use characters::{character, read_char_constant};
+pub use constants::{Integer, Rank, is_hexadecimal, is_octal, read_int_constant, read_integer};
 pub use hv_base::{CTok, IntType, Keyword, Punct};
 pub use macros::{Body, Meaning};
 pub use parted::{Failing, Parted};
