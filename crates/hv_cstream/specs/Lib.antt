@@ -1,0 +1,2 @@
+-- Tokens of C under all configurations. Read Streams.
+pub mod Streams

@@ -1,0 +1,2 @@
+-- What episodes give under all configurations. Read Given.
+pub mod Given
