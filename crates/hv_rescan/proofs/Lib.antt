@@ -1,0 +1,9 @@
+mod ArgumentLists
+mod Ends
+mod Fillings
+mod Parts
+mod Questions
+mod Runs
+mod Scans
+mod Texts
+mod Tokens
