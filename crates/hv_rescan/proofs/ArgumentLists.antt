@@ -34,7 +34,8 @@ pub takes_fewer : (macros : List ℕ → Macro) (o : Option Token') (before afte
     (b a m : ℕ)
     → Takes (option_map (token_of macros) o) before after → b ≡ m → a ≡ m
     → Fewer o (b + length before) (a + length after)
-takes_fewer macros None before after b a m t p q = tt
+takes_fewer macros None before after b a m t p q =
+    let e = ap length t.1 in omega (arith, e)
 takes_fewer macros (Some u) before after b a m t p q =
     let e = ap length t in omega (arith, e)
 

@@ -1,6 +1,7 @@
 mod ArgumentLists
 mod Ends
 mod Fillings
+mod Invocations
 mod Parts
 mod Questions
 mod Runs

@@ -1,5 +1,5 @@
 //! The arguments of a function-like macro (ISO/IEC 9899:1999, 6.10.3, paragraphs 4, 10, 11 and 12).
-ghost use Rattle.std.specs.Prelude.{◌≡◌, ◌+◌, ◌∷◌, ◌++◌, [], ℕ, Bool, List, Option, length, min, IfOk, OnOk};
+ghost use Rattle.std.specs.Prelude.{◌≡◌, ◌≤◌, ◌+◌, ◌∷◌, ◌++◌, [], ℕ, Bool, List, Option, length, min, IfOk, OnOk};
 ghost use Rattle.hv_toks.specs.Macro.{Macro};
 ghost use Rattle.hv_plain.specs.episode.Invocation as invocation;
 ghost use Rattle.hv_plain.specs.episode.Substitution.{argument};
@@ -88,6 +88,8 @@ pub(crate) fn take_arguments(
     ensures left { OnOk result (length (unread_of run.now unread.new)
         ≡ min (length (unread_of run.now unread.old))
         (length front.new + length (unread_of run.now unread.new))) }
+    ensures no_more { OnOk result (length front.new + length (unread_of run.now unread.new)
+        ≤ length front.old + length (unread_of run.now unread.old)) }
 {
     let mut depth: usize = 0;
     let mut argument = Vec::new(alloc);

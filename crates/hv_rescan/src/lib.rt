@@ -2,6 +2,7 @@
 #![tactic(auto)]
 
 mod arguments;
+mod deeds;
 mod draft;
 mod hides;
 mod machine;

@@ -13,13 +13,14 @@ ghost use Rattle.hv_rescan.specs.Values.{asked_of, givens_of, open_names, state_
 ghost use Rattle.hv_plain.specs.declared.episode.RunEnd.{RunEnd as RunEnd'};
 ghost use Rattle.hv_toks.specs.declared.token.PpTok.{PpTok as PpTok'};
 
+use crate::deeds::{answered_in, given_in, stopped, used_in};
 use crate::pending::Pending;
 use crate::scan::{State, Unread};
-use crate::spelling::{Spelling, answered};
+use crate::spelling::Spelling;
 use crate::start::{start_line, start_text};
-use crate::states::{Name, given, is_open, next, used};
-use crate::token::{Given, Token};
-use hv_base::{List, Memory, Span, Text, Why};
+use crate::states::{is_open, next};
+use crate::token::Given;
+use hv_base::{List, Memory, Span, Text};
 use hv_plain::RunEnd;
 use hv_toks::{Body, PpTok};
 use std::alloc::Global;
@@ -51,135 +52,6 @@ pub struct Expansion {
     pub tokens: List<PpTok>,
     /// The position in the run where it goes on.
     pub goes_on: usize,
-}
-
-/// The state where the first open digit of the token that pends is answered.
-fn answered_in(alloc: Global, state: State, is_defined: bool) -> Result<State, Memory>
-    requires { 0 < length (asked_of state) }
-    ensures settles { IfOk result (λ s. (name : List ℕ) (names : List (List ℕ))
-        → asked_of state ≡ name ∷ names
-        → (macros : List ℕ → Macro) (run : List PpTok') → is_macro (macros name) ≡ is_defined
-        → state_in macros run s ≡ state_in macros run state) }
-    ensures falls { IfOk result (λ s. (name : List ℕ) (names : List (List ℕ))
-        → asked_of state ≡ name ∷ names → asked_of s ≡ names) }
-{
-    let State::At {
-        token,
-        text,
-        frames,
-    } = state
-    else {
-        return Ok(state);
-    };
-    let Token {
-        kind,
-        spelling,
-        space,
-        hides,
-    } = token;
-    let spelling = match spelling {
-        Spelling::Known(_) => unreachable!(),
-        Spelling::Open { first, more, tail } => answered(alloc, first, more, tail, is_defined)?,
-    };
-    Ok(State::At {
-        token: Token {
-            kind,
-            spelling,
-            space,
-            hides,
-        },
-        text,
-        frames,
-    })
-}
-
-/// The state after the token that pends is given.
-fn given_in(alloc: Global, state: State) -> Result<State, Memory>
-    requires { asked_of state ≡ [] }
-    ensures { IfOk result (λ next. (macros : List ℕ → Macro) (run : List PpTok') (ends : RunEnd')
-        (t : PlainToken) (s : PlainScan) (fs : List PlainFrame)
-        → state_in macros run state ≡ at t s fs
-        → state_in macros run next ≡ after ends t s fs give) }
-{
-    let State::At {
-        token,
-        text,
-        frames,
-    } = state
-    else {
-        return Ok(state);
-    };
-    let Token {
-        kind,
-        spelling,
-        space,
-        hides,
-    } = token;
-    let Spelling::Known(bytes) = spelling else {
-        unreachable!()
-    };
-    let token = Given {
-        kind,
-        text: bytes,
-        space,
-        hides,
-    };
-    let after = given(alloc, token, text, frames)?;
-    Ok(after)
-}
-
-/// The state after the macro is used whose name pends.
-fn used_in(
-    alloc: Global,
-    ends: RunEnd,
-    run: &[PpTok],
-    state: State,
-    body: &Body,
-) -> Result<State, Memory>
-    requires { asked_of state ≡ [] }
-    ensures { IfOk result (λ next. (macros : List ℕ → Macro)
-        (t : PlainToken) (s : PlainScan) (fs : List PlainFrame)
-        → state_in macros run.now state ≡ at t s fs
-        → state_in macros run.now next ≡ used ends t s fs body.now) }
-{
-    let State::At {
-        token,
-        text,
-        frames,
-    } = state
-    else {
-        return Ok(state);
-    };
-    let Token {
-        kind: _,
-        spelling,
-        space,
-        hides,
-    } = token;
-    let Spelling::Known(bytes) = spelling else {
-        unreachable!()
-    };
-    let name = Name {
-        text: bytes,
-        space,
-        hides,
-    };
-    used(alloc, ends, run, name, text, frames, body)
-}
-
-/// The state after a stop.
-fn stopped(state: State) -> State
-    ensures { (macros : List ℕ → Macro) (run : List PpTok') (ends : RunEnd')
-        (t : PlainToken) (s : PlainScan) (fs : List PlainFrame)
-        → state_in macros run state ≡ at t s fs
-        → state_in macros run result ≡ after ends t s fs stop }
-{
-    let State::At { .. } = state else {
-        return state;
-    };
-    State::Refused {
-        why: Why::DirectiveInArguments,
-    }
 }
 
 /// The span of a token of a run; there is none beyond its end.

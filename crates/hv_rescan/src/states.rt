@@ -141,7 +141,8 @@ fn invoke(
         arguments: taken.arguments,
         hides,
     };
-    begin(alloc, name, text, frames, body, taken)
+    let state = begin(alloc, name, text, frames, body, taken)?;
+    Ok(state)
 }
 
 /// The state after a macro is used.
@@ -166,9 +167,13 @@ pub(crate) fn used(
                 arguments: Vec::new(alloc),
                 hides: name.hides.copy()?,
             };
-            begin(alloc, name, text, frames, body, taken)
+            let state = begin(alloc, name, text, frames, body, taken)?;
+            Ok(state)
         }
-        Body::Function { .. } => invoke(alloc, ends, run, name, text, frames, body),
+        Body::Function { .. } => {
+            let state = invoke(alloc, ends, run, name, text, frames, body)?;
+            Ok(state)
+        }
     }
 }
 

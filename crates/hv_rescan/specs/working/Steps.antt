@@ -1,5 +1,5 @@
 -- What the values of private functions stand for.
-use Rattle.std.specs.Prelude.{ℕ, ◌≡◌, ◌<◌, ◌+◌, ◌||◌, Bool, true, false, not, List, [], ◌∷◌, ◌++◌, filter, map, codes, length, Option, Some, None}
+use Rattle.std.specs.Prelude.{ℕ, ◌≡◌, ◌<◌, ◌≤◌, ◌+◌, ◌||◌, Bool, true, false, not, List, [], ◌∷◌, ◌++◌, filter, map, codes, length, Option, Some, None}
 use Rattle.std.specs.Global.{Vec}
 use Rattle.hv_base.specs.Ascii.{is_among}
 use Rattle.hv_toks.specs.Macro.{Macro}
@@ -94,9 +94,9 @@ abbrev pub Takes : Option Token → (before after : List Token) → Type 0
 Takes None before after = (before ≡ []) × (after ≡ [])
 Takes (Some t) before after = before ≡ t ∷ after
 
--- where a token was taken, a count falls
+-- a count doesn't rise, and falls where a token was taken
 abbrev pub Fewer : Option Token' → (before after : ℕ) → Type 0
-Fewer None before after = Unit {0}
+Fewer None before after = after ≤ before
 Fewer (Some t) before after = after < before
 
 -- what a token is to an invocation, by its name in the code

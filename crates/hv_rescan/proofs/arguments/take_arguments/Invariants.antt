@@ -14,6 +14,8 @@ invariant-loop-arguments l = record {
   bound : l.depth ≤ vec_len l.argument;
   left : length (unread_of l.run l.unread) ≡ min (length (unread_of l.run l.fn.unread))
       (length l.front + length (unread_of l.run l.unread));
+  no_more : length l.front + length (unread_of l.run l.unread)
+      ≤ length l.fn.front + length (unread_of l.run l.fn.unread);
 }
 
 abbrev pub decreases-loop-arguments : goal.decreases-loop-arguments

@@ -3,7 +3,7 @@ use Rattle.hv_plain.specs.declared.episode.RunEnd.{RunEnd}
 use Rattle.hv_plain.specs.episode.Expansion.{Deed, State, after, at, done, give, refused, settle}
 use Rattle.hv_rescan.specs.Values.{frames_of, hides_of, scan_of, state_in, text_of}
 use Rattle.hv_rescan.specs.declared.spelling.Spelling.{Spelling}
-use Rattle.hv_rescan.proofs.machine.given_in.Goals as goal
+use Rattle.hv_rescan.proofs.deeds.given_in.Goals as goal
 
 -- what a deed makes of a state
 abbrev done_to : RunEnd → Deed → State → State
