@@ -11,18 +11,27 @@ use Rattle.hv_toks.specs.declared.macros.Body.TheVariants.{Object}
 use Rattle.hv_toks.specs.declared.token.PpTok.{PpTok}
 use Rattle.hv_plain.specs.declared.episode.RunEnd.{RunEnd}
 use Rattle.hv_plain.specs.episode.Expansion.{State, refused, begin, invoke, left_after, tail, unclosed, used}
-use Rattle.hv_plain.specs.episode.Invocation.{Taken, takes}
+use Rattle.hv_plain.specs.episode.Invocation.{Taken, take_arguments, takes}
 use Rattle.hv_plain.specs.episode.Substitution.{Frame, Scan}
 use Rattle.hv_plain.specs.episode.Tokens.{Token, both}
 use Rattle.hv_rescan.specs.Values.{arguments_of, token_of, tokens_of}
+use Rattle.hv_rescan.specs.declared.arguments.Taken.{Taken as Taken'}
 use Rattle.hv_rescan.specs.declared.token.Token.{Token as Token'}
-use Rattle.hv_rescan.specs.working.Steps.{Takes}
+use Rattle.hv_rescan.specs.working.Steps.{Takes, taken_of}
 
 -- the tokens after the first are those that are left once it is taken
 pub tail_taken : (o : Option Token) (before after : List Token) → Takes o before after
     → after ≡ tail before
 tail_taken None before after h = h.1 ∙ sym (ap tail h.0)
 tail_taken (Some t) before after h = sym (ap tail h)
+
+-- the arguments that are taken after the first token
+pub taken_after : (macros : List ℕ → Macro) (body : Body) (o : Option Taken') (p : Option Token)
+    (before rest after : List Token)
+    → taken_of macros o after ≡ take_arguments body 0 [] [] rest → Takes p before rest
+    → taken_of macros o after ≡ take_arguments body 0 [] [] (tail before)
+taken_after macros body o p before rest after h k =
+    h ∙ ap (take_arguments body 0 [] []) (tail_taken p before rest k)
 
 ------ the three outcomes
 

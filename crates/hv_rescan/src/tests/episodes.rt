@@ -51,7 +51,8 @@ fn function_like(
     })
 }
 
-/// The macro of a line as it stands after `#define`; its first blank is before the replacement list.
+/// The macro of a line as it stands after `#define`; its first blank stands before the replacement
+/// list.
 fn told(alloc: Global, line: &str) -> Result<Told, Fail> {
     let Some((head, replacement)) = line.split_once(' ') else {
         return Err(Fail::from("no replacement list"));
