@@ -1,5 +1,5 @@
 -- What stands next in a text, how much of a run is left, and what an open digit tells.
-use Rattle.std.proofs.Common.{◌≡◌, ◌<◌, ◌≤◌, ◌-◌, ℕ, Bool, true, false, List, [], ◌∷◌, ◌++◌, Option, Some, None, refl, sym, ap, ◌∙◌, arith, length, length-drop, map, drop, get_or, drop-cons, append_assoc}
+use Rattle.std.proofs.Common.{◌≡◌, ◌<◌, ◌≤◌, ◌-◌, ℕ, Bool, false, List, [], ◌∷◌, ◌++◌, Option, Some, None, refl, sym, ap, ◌∙◌, arith, length, length-drop, map, drop, get_or, drop-cons, append_assoc}
 use Rattle.std.specs.Prelude.{IsTrue, ◌↔◌, slice_get}
 use Rattle.std.proofs.lemmas.Bool.{false≢true}
 use Rattle.hv_base.proofs.Lists.{drop-past, length-map}

@@ -1,9 +1,9 @@
 -- How a replacement list is cut, one token after another.
-use Rattle.std.proofs.Common.{◌≡◌, ℕ, ◌+◌, Bool, true, false, List, [], ◌∷◌, ◌++◌, Option, Some, None, refl, sym, ap, ◌∙◌, arith, length, drop, map, append_assoc, add_assoc}
+use Rattle.std.proofs.Common.{◌≡◌, ℕ, ◌+◌, Bool, true, false, List, [], ◌∷◌, ◌++◌, Option, Some, None, refl, sym, ap, ◌∙◌, arith, length, drop, map, append_assoc}
 use Rattle.std.specs.Prelude.{codes}
 use Rattle.std.specs.Str.{bytes_eq}
 use Rattle.hv_toks.specs.declared.token.PpTok.{PpTok}
-use Rattle.hv_plain.specs.episode.Bodies.{Before, nothing, a_part, a_paste, Part, string, part, pastes, is_paste, has_some, token_part, parts_after, index_of}
+use Rattle.hv_plain.specs.episode.Bodies.{Before, nothing, a_part, a_paste, Part, string, part, pastes, is_paste, token_part, parts_after, index_of}
 use Rattle.std.proofs.lemmas.List.{map-append}
 use Rattle.hv_rescan.specs.Values.{part_of}
 use Rattle.hv_rescan.specs.declared.part.Part.{Part as Part'}

@@ -1,11 +1,11 @@
 -- The rest of a run: its first token, and white space that is owed before it.
-use Rattle.std.proofs.Common.{◌≡◌, ◌<◌, ◌≤◌, ◌+◌, ◌-◌, ℕ, Bool, false, List, [], ◌∷◌, ◌++◌, refl, sym, ap, ◌∙◌, arith, length, map, drop, get_or, suc, add-one, drop-cons}
+use Rattle.std.proofs.Common.{◌≡◌, ◌<◌, ◌≤◌, ◌+◌, ◌-◌, ℕ, Bool, false, List, [], ◌∷◌, refl, sym, ap, ◌∙◌, arith, length, map, drop, get_or, suc, add-one, drop-cons}
 use Rattle.std.specs.Prelude.{◌||◌}
 use Rattle.hv_base.proofs.Booleans.{or_assoc}
 use Rattle.hv_base.proofs.Lists.{drop-past}
 use Rattle.hv_toks.specs.declared.token.PpTok.{PpTok}
 use Rattle.hv_plain.specs.episode.Episode.{starting}
-use Rattle.hv_plain.specs.episode.Expansion.{State, at, alone}
+use Rattle.hv_plain.specs.episode.Expansion.{at}
 use Rattle.hv_plain.specs.episode.Tokens.{Token, owing, source_token}
 use Rattle.hv_rescan.proofs.Scans.{scanned}
 use Rattle.hv_rescan.proofs.Tokens.{owing_none}

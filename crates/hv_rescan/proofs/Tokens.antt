@@ -1,5 +1,5 @@
 -- Tokens one by one: hide sets, arguments within a literal, joining, and the rest of a run.
-use Rattle.std.proofs.Common.{◌≡◌, ◌<◌, ◌≤◌, ◌+◌, ◌-◌, ℕ, zero, suc, Bool, true, false, not, cond, List, [], ◌∷◌, ◌++◌, Option, Some, None, refl, sym, ap, ◌∙◌, arith, append_assoc, length, map, take, drop, filter, get_or, add-one}
+use Rattle.std.proofs.Common.{◌≡◌, ◌<◌, ◌≤◌, ◌+◌, ℕ, Bool, true, false, not, cond, List, [], ◌∷◌, ◌++◌, Option, Some, None, refl, sym, ap, ◌∙◌, arith, append_assoc, length, take, drop, get_or, add-one}
 use Rattle.std.specs.Prelude.{◌||◌}
 use Rattle.std.proofs.lemmas.List.Elements.{filter-append}
 use Rattle.hv_base.specs.Ascii.{is_among}
@@ -8,7 +8,7 @@ use Rattle.hv_toks.specs.Cutting.{whole_token}
 use Rattle.hv_toks.specs.declared.token.PpKind.{PpKind}
 use Rattle.hv_toks.specs.declared.token.PpKind.TheVariants.{Identifier, Number, CharConstant, StringLiteral, HeaderName, Punctuator, Other}
 use Rattle.hv_plain.specs.episode.Substitution.{argument_quoted, blank, join, more_quoted, paste, quoted}
-use Rattle.hv_plain.specs.episode.Tokens.{Token, both, owing, source_token, still_owed}
+use Rattle.hv_plain.specs.episode.Tokens.{Token, both, owing, still_owed}
 use Rattle.hv_rescan.specs.working.Drafts.{within}
 use Rattle.hv_toks.specs.Macro.{Macro}
 use Rattle.std.specs.Option.{option_map}

@@ -1,10 +1,8 @@
 -- What pends in a state.
-use Rattle.std.specs.Prelude.{ℕ, ◌≡◌, ◌∷◌, Bool, true, false, List, [], Option, Some, None}
-use Rattle.hv_base.specs.declared.why.Why.{Why}
+use Rattle.std.specs.Prelude.{ℕ, ◌≡◌, Bool, true, false, List, Option, Some, None}
 use Rattle.hv_toks.specs.Macro.{Macro, undefined, defined}
 use Rattle.hv_toks.specs.declared.token.PpKind.{PpKind}
 use Rattle.hv_plain.specs.declared.episode.RunEnd.{RunEnd}
-use Rattle.hv_plain.specs.episode.Episode.{digit}
 use Rattle.hv_plain.specs.episode.Expansion.{Next, parenthesis, otherwise, directive, next, is_open, State, at, done, refused}
 use Rattle.hv_plain.specs.episode.Substitution.{Scan, Frame}
 use Rattle.hv_plain.specs.episode.Tokens.{Token}

@@ -1,5 +1,5 @@
 -- What the values of the code stand for under a macro state, which says what each name means.
-use Rattle.std.specs.Prelude.{ℕ, Bool, true, false, List, [], ◌∷◌, ◌++◌, map, drop, length, Option, Some, None}
+use Rattle.std.specs.Prelude.{ℕ, List, [], ◌∷◌, ◌++◌, map, drop, length, Option, Some, None}
 use Rattle.std.specs.Global.{Global, Vec}
 use Rattle.std.specs.declared.rc.Rc.{Rc}
 use Rattle.hv_toks.specs.Macro.{Macro}

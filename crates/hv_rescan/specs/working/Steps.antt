@@ -1,5 +1,5 @@
 -- What the values of private functions stand for.
-use Rattle.std.specs.Prelude.{ℕ, ◌≡◌, ◌<◌, ◌≤◌, ◌+◌, ◌||◌, Bool, true, false, not, List, [], ◌∷◌, ◌++◌, filter, map, codes, length, Option, Some, None}
+use Rattle.std.specs.Prelude.{ℕ, ◌≡◌, ◌<◌, ◌≤◌, ◌+◌, Bool, true, false, not, List, [], ◌∷◌, ◌++◌, filter, codes, Option, Some, None}
 use Rattle.std.specs.Global.{Vec}
 use Rattle.hv_base.specs.Ascii.{is_among}
 use Rattle.hv_toks.specs.Macro.{Macro}

@@ -31,11 +31,7 @@ fn cut(alloc: Global, text: &str) -> Result<List<PpTok>, Fail> {
 }
 
 /// The body of a function-like macro, from the tokens of its parameters.
-fn function_like(
-    alloc: Global,
-    parameters: &[PpTok],
-    body: List<PpTok>,
-) -> Result<Body, Memory> {
+fn function_like(alloc: Global, parameters: &[PpTok], body: List<PpTok>) -> Result<Body, Memory> {
     let mut params = List::new(alloc);
     let mut variadic = false;
     for token in parameters {

@@ -1,5 +1,5 @@
 use Rattle.hv_rescan.proofs.ArgumentLists.{argument_at, argument_past}
-use Rattle.std.proofs.Common.{◌≡◌, ◌<◌, ◌≤◌, ap, ◌∙◌, arith, length, List}
+use Rattle.std.proofs.Common.{◌<◌, ◌≤◌, ap, ◌∙◌, arith, length, List}
 use Rattle.hv_rescan.specs.declared.token.Token.{Token}
 use Rattle.hv_rescan.specs.Values.{tokens_of}
 use Rattle.hv_rescan.proofs.arguments.argument.Goals as goal

@@ -1,4 +1,4 @@
-use Rattle.std.proofs.Common.{◌≡◌, ℕ, List, [], ◌∷◌, ◌++◌, sym, ap, ◌∙◌}
+use Rattle.std.proofs.Common.{[], ◌∷◌, ◌++◌, sym, ap, ◌∙◌}
 use Rattle.hv_plain.specs.declared.episode.RunEnd.{RunEnd}
 use Rattle.hv_plain.specs.episode.Expansion.{Deed, State, after, at, done, give, refused, settle}
 use Rattle.hv_rescan.specs.Values.{frames_of, hides_of, scan_of, state_in, text_of}
@@ -21,6 +21,6 @@ returns c macros run ends t s fs h =
         text = text_of macros x;
         space = c.in-At.token.space;
         hides = hides_of c.in-At.token.hides;
-      }) ∷ []
+      }) ∷ [];
     })) (sym c.in-Known.is)
     ∙ ap (done_to ends give) (ap (state_in macros run) (sym c.in-At.is) ∙ h)

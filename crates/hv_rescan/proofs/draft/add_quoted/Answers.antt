@@ -1,4 +1,4 @@
-use Rattle.std.proofs.Common.{◌≡◌, ◌++◌, ◌∷◌, [], ◌<◌, ◌+◌, sym, ap, ◌∙◌, append_assoc, arith, length, get_or, take, refl, List, ℕ}
+use Rattle.std.proofs.Common.{◌++◌, ◌∷◌, [], ◌<◌, sym, ap, ◌∙◌, append_assoc, arith, length, get_or, take, List, ℕ}
 use Rattle.hv_plain.specs.episode.Substitution.{escaped}
 use Rattle.hv_rescan.proofs.Texts.{escaped_next}
 use Rattle.hv_rescan.proofs.draft.add_quoted.Goals as goal

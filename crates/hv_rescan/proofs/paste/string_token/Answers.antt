@@ -1,4 +1,4 @@
-use Rattle.std.proofs.Common.{◌≡◌, ◌++◌, ◌∷◌, ◌<◌, sym, ap, ◌∙◌, refl, arith, length, List, ℕ}
+use Rattle.std.proofs.Common.{◌++◌, ◌∷◌, ◌<◌, sym, ap, ◌∙◌, refl, arith, length, List, ℕ}
 use Rattle.hv_base.specs.Ascii as ascii
 use Rattle.hv_rescan.proofs.Tokens.{quoted_token}
 use Rattle.hv_rescan.specs.Values.{token_of}

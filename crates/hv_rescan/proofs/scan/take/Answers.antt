@@ -1,7 +1,6 @@
 use Rattle.hv_rescan.proofs.ArgumentLists.{takes_left, takes_fewer}
-use Rattle.std.proofs.Common.{◌≡◌, ap, arith, length, ◌≤◌, List}
+use Rattle.std.proofs.Common.{ap, arith, length}
 use Rattle.hv_rescan.specs.working.Drafts.{nothing}
-use Rattle.hv_rescan.specs.Values.{unread_of}
 use Rattle.hv_rescan.proofs.scan.take.Goals as goal
 
 pub returns-clause-left : goal.returns-clause-left

@@ -1,4 +1,4 @@
-use Rattle.std.proofs.Common.{◌-◌, ◌+◌, ◌++◌, ◌∙◌, [], List, ap, length, map, drop, false}
+use Rattle.std.proofs.Common.{◌+◌, ◌++◌, ◌∙◌, [], List, ap, length, map, drop, false}
 use Rattle.hv_plain.specs.episode.Expansion.{at}
 use Rattle.hv_plain.specs.episode.Tokens.{Token, owing, source_token}
 use Rattle.hv_rescan.specs.Values.{frames_of, givens_of, token_of, tokens_of}

@@ -1,11 +1,12 @@
-use Rattle.std.proofs.Common.{◌≡◌, ℕ, List, [], Option, None, Some, length, sym, ap, ◌∙◌}
-use Rattle.std.specs.Option.{option_map}
-use Rattle.hv_plain.specs.episode.Expansion.{begin, left_after, tail}
-use Rattle.hv_plain.specs.episode.Invocation.{Taken, take_arguments}
-use Rattle.hv_plain.specs.episode.Tokens.{Token, both}
+use Rattle.std.proofs.Common.{ℕ, List, Option, length, sym, ap, ◌∙◌}
+use Rattle.std.specs.Global.{Vec}
+use Rattle.hv_plain.specs.episode.Expansion.{begin, left_after}
+use Rattle.hv_plain.specs.episode.Invocation.{Taken, takes}
+use Rattle.hv_plain.specs.episode.Tokens.{both}
 use Rattle.hv_rescan.proofs.Invocations.{none_taken, right_taken, taken_after, unread_left, wrong_taken}
-use Rattle.hv_rescan.specs.Values.{arguments_of, frames_of, givens_of, hides_of, scan_of, token_of, unread_of}
+use Rattle.hv_rescan.specs.Values.{arguments_of, frames_of, hides_of, scan_of, unread_of}
 use Rattle.hv_rescan.specs.declared.arguments.Taken.{Taken as Taken'}
+use Rattle.hv_rescan.specs.declared.token.Token.{Token as Token'}
 use Rattle.hv_rescan.specs.working.Steps.{ahead_of, taken_of}
 use Rattle.hv_rescan.proofs.states.invoke.Goals as goal
 
@@ -21,8 +22,8 @@ returns-in_default c macros t e f g =
     (c.in_ok-taken.ensures.taken macros) (c.in_ok-_opening.ensures.takes macros))
     (c.unclosed.ensures macros run)
 
-pub returns-then-takes : goal.returns-then-takes
-returns-then-takes c macros t e f g =
+pub returns-then-not-takes : goal.returns-then-not-takes
+returns-then-not-takes c macros t e f g =
     let run = c.args.run.now in
     let s = scan_of macros run c.args.text in
     let fs = frames_of macros run c.args.frames in
@@ -36,7 +37,7 @@ returns-then-takes c macros t e f g =
     (ap (λ (o : Option Taken'). taken_of macros o after) (sym c.in-Some.is)
     ∙ taken_after macros c.args.body.now c.in_ok-taken.taken _ s.ahead _ after
     (c.in_ok-taken.ensures.taken macros) (c.in_ok-_opening.ensures.takes macros))
-    (c.takes.ensures macros) c.if-takes.false
+    (c.takes.ensures macros ∙ ap (λ (xs : List (Vec Token')). takes c.args.body.now (arguments_of macros xs)) c.deref.ensures.value) c.if-not-takes.true
 
 pub returns : goal.returns
 returns c macros t e f g =
@@ -65,4 +66,4 @@ returns c macros t e f g =
     (ap (λ (o : Option Taken'). taken_of macros o after) (sym c.in-Some.is)
     ∙ taken_after macros body c.in_ok-taken.taken _ s.ahead _ after
     (c.in_ok-taken.ensures.taken macros) (c.in_ok-_opening.ensures.takes macros))
-    (c.takes.ensures macros) c.if-takes.true
+    (c.takes.ensures macros ∙ ap (λ (xs : List (Vec Token')). takes c.args.body.now (arguments_of macros xs)) c.deref.ensures.value) c.if-not-takes.false

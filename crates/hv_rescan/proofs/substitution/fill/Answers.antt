@@ -1,10 +1,10 @@
-use Rattle.std.proofs.Common.{◌≡◌, ◌||◌, ◌++◌, [], ℕ, Bool, true, false, List, Option, map, length, sym, ap, ◌∙◌, arith}
+use Rattle.std.proofs.Common.{◌≡◌, ◌||◌, Bool, true, false, List, map, sym, ap, ◌∙◌, arith}
 use Rattle.std.specs.Global.{Vec}
-use Rattle.hv_plain.specs.episode.Bodies.{Part, single, joined}
-use Rattle.hv_plain.specs.episode.Substitution.{Filled, Scan, fill, space_of, stands_for, join, whole}
+use Rattle.hv_plain.specs.episode.Bodies.{Part}
+use Rattle.hv_plain.specs.episode.Substitution.{fill, space_of, stands_for, whole}
 use Rattle.hv_plain.specs.episode.Tokens.{Token, still_owed}
 use Rattle.hv_rescan.proofs.Fillings.{first_joined, first_single, owed_never, owed_where_empty, owes_not, owes_or, placed_is, steps_joined, steps_single, tokens-append}
-use Rattle.hv_rescan.specs.Values.{arguments_of, frame_of, operand_of, part_of, scan_of, tokens_of}
+use Rattle.hv_rescan.specs.Values.{arguments_of, frame_of, operand_of, part_of, tokens_of}
 use Rattle.hv_rescan.specs.declared.part.Operand.{Operand as Operand'}
 use Rattle.hv_rescan.specs.declared.part.Part.{Part as Part'}
 use Rattle.hv_rescan.specs.declared.part.Part.TheVariants as part'
@@ -33,7 +33,7 @@ loop-part-preserved-then-joins c macros run =
     let x : Which = c.match-part.operand in
     let part : c.in-Some.part ≡ part'.Joined x.0 = elim c.match-part.branch [
       | in-Single w ↦
-        let e : false ≡ true = not_both x _ false true w.operand-is c.if-joins.true in cc
+          let e : false ≡ true = not_both x _ false true w.operand-is c.if-joins.true in cc
       | in-Joined w ↦ is_joined _ x _ w.operand-is w.in-Joined.is
     ] in
     let owes : c.if-space_of.owes ≡ (space_of (operand_of x.0) || c.loop-part.owed) =
@@ -73,7 +73,7 @@ loop-part-preserved c macros run =
     let part : c.in-Some.part ≡ part'.Single x.0 = elim c.match-part.branch [
       | in-Single w ↦ is_single _ x _ w.operand-is w.in-Single.is
       | in-Joined w ↦
-        let e : true ≡ false = not_both x _ true false w.operand-is c.if-joins.false in cc
+          let e : true ≡ false = not_both x _ true false w.operand-is c.if-joins.false in cc
     ] in
     let owes : c.if-space_of.owes ≡ (space_of (operand_of x.0) || c.loop-part.owed) =
     elim c.if-space_of.branch [

@@ -1,8 +1,8 @@
-use Rattle.std.proofs.Common.{◌≡◌, Bool, List, map, ap, ◌∙◌}
+use Rattle.std.proofs.Common.{◌≡◌, Bool, List, ap, ◌∙◌}
 use Rattle.hv_plain.specs.episode.Substitution.{fill}
 use Rattle.hv_plain.specs.episode.Tokens.{Token, still_owed}
 use Rattle.hv_rescan.proofs.Fillings.{fill_owed, owed_never, owed_where_none}
-use Rattle.hv_rescan.specs.Values.{frame_of, givens_of, part_of, tokens_of}
+use Rattle.hv_rescan.specs.Values.{frame_of, givens_of, tokens_of}
 use Rattle.hv_rescan.proofs.substitution.resume.Goals.{then-owed, else-owed}
 use Rattle.hv_rescan.proofs.substitution.resume.Goals as goal
 

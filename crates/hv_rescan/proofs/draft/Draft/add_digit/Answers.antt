@@ -1,5 +1,5 @@
 use Rattle.hv_rescan.proofs.Texts.{digits_added}
-use Rattle.std.proofs.Common.{◌≡◌, sym, ap, ◌∙◌}
+use Rattle.std.proofs.Common.{◌∙◌}
 use Rattle.hv_rescan.proofs.draft.Draft.add_digit.Goals as goal
 
 pub returns : goal.returns

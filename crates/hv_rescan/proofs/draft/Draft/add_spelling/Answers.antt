@@ -1,6 +1,5 @@
 use Rattle.hv_rescan.proofs.Texts.{spelling_added}
-use Rattle.std.proofs.Common.{◌≡◌, sym, ap, ◌∙◌, ◌++◌, ◌∷◌, [], reverse, List, ℕ}
-use Rattle.hv_toks.specs.Macro.{Macro}
+use Rattle.std.proofs.Common.{sym, ap, ◌∙◌, ◌++◌, ◌∷◌, [], reverse, List, ℕ}
 use Rattle.std.proofs.lemmas.List.{reverse-reverse}
 use Rattle.hv_plain.specs.episode.Episode.{digit}
 use Rattle.hv_rescan.specs.declared.spelling.Digit.{Digit}

@@ -1,4 +1,4 @@
-use Rattle.std.proofs.Common.{◌≡◌, ◌++◌, ◌∷◌, [], ◌<◌, sym, ap, ◌∙◌, append_assoc, arith, length, List, ℕ}
+use Rattle.std.proofs.Common.{◌++◌, ◌∷◌, [], ◌<◌, sym, ap, ◌∙◌, append_assoc, arith, length, List, ℕ}
 use Rattle.hv_rescan.proofs.Texts.{digits_next}
 use Rattle.hv_rescan.specs.working.Drafts.{nothing}
 use Rattle.hv_rescan.proofs.draft.Draft.bytes.Goals as goal

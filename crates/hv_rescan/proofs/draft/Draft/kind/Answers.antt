@@ -1,5 +1,5 @@
 use Rattle.hv_rescan.proofs.Texts.{whole_as_nothing}
-use Rattle.std.proofs.Common.{◌≡◌, ap, ◌∙◌}
+use Rattle.std.proofs.Common.{ap, ◌∙◌}
 use Rattle.hv_toks.specs.Cutting.{whole_token}
 use Rattle.hv_rescan.proofs.draft.Draft.kind.Goals as goal
 

@@ -1,4 +1,4 @@
-use Rattle.std.proofs.Common.{◌≡◌, ◌∙◌, rules, true, false}
+use Rattle.std.proofs.Common.{◌≡◌, rules, true, false}
 use Rattle.std.specs.Prelude.{codes}
 use Rattle.std.specs.Str.{bytes_eq}
 use Rattle.hv_rescan.proofs.Parts.{index_fixed, index_named, index_other, index_variadic}
