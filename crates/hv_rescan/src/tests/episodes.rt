@@ -49,7 +49,7 @@ fn function_like(alloc: Global, parameters: &[PpTok], body: List<PpTok>) -> Resu
 
 /// The macro of a line as it stands after `#define`; its first blank stands before the replacement
 /// list.
-fn told(alloc: Global, line: &str) -> Result<Told, Fail> {
+fn macro_of(alloc: Global, line: &str) -> Result<Told, Fail> {
     let Some((head, replacement)) = line.split_once(' ') else {
         return Err(Fail::from("no replacement list"));
     };
@@ -71,7 +71,7 @@ fn told(alloc: Global, line: &str) -> Result<Told, Fail> {
 fn macros_of(alloc: Global, lines: &[&str]) -> Result<List<Told>, Fail> {
     let mut macros = List::new(alloc);
     for line in lines {
-        macros.add(told(alloc, line)?)?;
+        macros.add(macro_of(alloc, line)?)?;
     }
     Ok(macros)
 }
