@@ -80,9 +80,9 @@ module _ {A : Type 0} (d : Diagram) (given more : List Given) (read : List Bool 
   left values others m number same =
       All-weaker (IsFaced place (Number others) (face others)) (AgreeInFace (g, m))
       (λ p q e.
-        let at : p.0.place ≡ place = sym e ∙ stands in
-        let both = once values others g.face p.0.face number (q.number at) in
-        (λ h. same ∙ (both.0 h ∙ sym (q.same at)), λ h. both.1 (sym same ∙ (h ∙ q.same at))))
+      let at : p.0.place ≡ place = sym e ∙ stands in
+      let both = once values others g.face p.0.face number (q.number at) in
+      (λ h. same ∙ (both.0 h ∙ sym (q.same at)), λ h. both.1 (sym same ∙ (h ∙ q.same at))))
       (pairs d given read others) (f.here others)
 
   right : (values others : List Bool) (m : Met) → Number others g.face → m.face ≡ face others
@@ -90,9 +90,9 @@ module _ {A : Type 0} (d : Diagram) (given more : List Given) (read : List Bool 
   right values others m number same =
       All-weaker (IsFaced place (Number values) (face values)) (λ (p : Pair). AgreeInFace p (g, m))
       (λ p q e.
-        let at : p.0.place ≡ place = e ∙ stands in
-        let both = once values others p.0.face g.face (q.number at) number in
-        (λ h. q.same at ∙ (both.0 h ∙ sym same), λ h. both.1 (sym (q.same at) ∙ (h ∙ same))))
+      let at : p.0.place ≡ place = e ∙ stands in
+      let both = once values others p.0.face g.face (q.number at) number in
+      (λ h. q.same at ∙ (both.0 h ∙ sym same), λ h. both.1 (sym (q.same at) ∙ (h ∙ same))))
       (pairs d given read values) (f.here values)
 
   two : (values others : List Bool) (m n : Met) → Number values g.face → m.face ≡ face values
@@ -187,10 +187,13 @@ next_pairs {A} d whole read given c pending next slots rests refused rest Number
         (m.0 ∷ (rest values).met) =
         subst (λ (r : Reading A). IsBegun (given_in d given values) (read values).met r.met) m.1
         (s.waiting 0 c (omega arith) values e).begun in
-        inr (m.0, record {
-          next = ap (λ (gs : List Given). zip gs (read values).met)
-              (given_in_with d values given g (owned ∙ e))
-              ∙ begun_pair (given_in d given values) g m.0 (read values).met (rest values).met begun;
-          number = m.3;
-          same = m.2;
-        })
+        inr (
+          m.0,
+          record {
+            next = ap (λ (gs : List Given). zip gs (read values).met)
+                (given_in_with d values given g (owned ∙ e))
+                ∙ begun_pair (given_in d given values) g m.0 (read values).met (rest values).met begun;
+            number = m.3;
+            same = m.2;
+          },
+        )

@@ -11,7 +11,9 @@ use Rattle.hv_cond.specs.Diagram.{AllNodes, Diagram, IsNode, Keeps, holds}
 use Rattle.hv_cond.specs.Laws.{Keeps-refl, Keeps-trans}
 use Rattle.hv_cond.specs.Parts.{count_satisfied}
 use Rattle.hv_cond.specs.declared.conditions.Cond.{Cond}
-use Rattle.hv_expand.specs.Outcomes.{HaveOneFace, IsResult, conditions}
+use Rattle.hv_expand.specs.Outcomes.{HaveOneFace, IfTooMany, IsResult, conditions}
+use Rattle.hv_expand.specs.declared.outcome.ExpandFault.{ExpandFault}
+use Rattle.hv_expand.specs.declared.outcome.ExpandFault.TheVariants as expand_fault
 use Rattle.hv_expand.specs.declared.outcome.Expanded.{Expanded}
 use Rattle.hv_expand.specs.declared.outcome.Expanded.TheVariants.{Tokens, Fails}
 use Rattle.hv_expand.specs.declared.outcome.Outcome.{Outcome}
@@ -38,9 +40,10 @@ use Rattle.hv_texts.specs.Readings.{AreByFace, AreFew, AreMet, AreWithin, Ends, 
 use Rattle.hv_texts.specs.declared.came.Came.{Came}
 use Rattle.hv_texts.specs.declared.came.Found.{Found}
 use Rattle.hv_texts.specs.declared.came.Found.TheVariants as found
+use Rattle.hv_texts.specs.declared.came.TooMany.{TooMany}
 use Rattle.hv_texts.specs.declared.came.Truths.{Truths}
 use Rattle.hv_texts.specs.working.Sorting.{AreFaced, IsMoved, IsSorted, left}
-use Rattle.hv_texts.specs.working.Steps.{AreOutcomes, HasNumber, IfFound, IsJudging, IsLineRead, IsRead, entry, line_reads, truth_left, way_of_truth, way_on_line}
+use Rattle.hv_texts.specs.working.Steps.{AreOutcomes, HasNumber, IfFound, IsFaultAt, IsJudging, IsLineRead, IsRead, entry, line_reads, truth_left, way_of_truth, way_on_line}
 use Rattle.hv_toks.specs.Macro.{Macro}
 use Rattle.hv_toks.specs.Spelled.{Spelled, all_spelled}
 use Rattle.hv_toks.specs.declared.parted.Failing.{Failing}
@@ -116,7 +119,7 @@ module _ (old now new : Diagram) (whole c : Cond) (hash place : Place)
       (left truth_left (way_on_line hash place o.result) values) (face_of values)
   comes values h =
       let right = its_right old table Line run 0 c outcomes a done o pending split values
-          (there values h) in
+      (there values h) in
       let e : Episode = episode Line run 0 (meaning_in old table values) in
       record {
         met = record { place = place; face = e.face; gives = [] };
@@ -232,12 +235,17 @@ module _ (now d : Diagram) (keeps : Keeps now d) (whole good : Cond) (hash place
       which : (holds d truths.holds values ≡ true) ⊎ (holds d truths.fails values ≡ true)
           → (value : Bool) × ((reads values).ending ≡ reaches value)
           × HasTruth d truths values value
-      which (inl e) = (true, (s.going 0 good (omega arith) values e).ends,
-        (e, not_both (holds d truths.holds values) (holds d truths.fails values) (most values) e))
+      which (inl e) = (
+        true,
+        (s.going 0 good (omega arith) values e).ends,
+        (e, not_both (holds d truths.holds values) (holds d truths.fails values) (most values) e),
+      )
       which (inr e) =
-          let m = most values in
-          (false, (s.going 1 good (omega arith) values e).ends,
-            (not_both (holds d truths.fails values) (holds d truths.holds values) (omega arith) e, e))
+          let m = most values in (
+            false,
+            (s.going 1 good (omega arith) values e).ends,
+            (not_both (holds d truths.fails values) (holds d truths.holds values) (omega arith) e, e),
+          )
 
   pub line_read : IsRead d whole reads (HasTruth d truths) given good refused
   line_read = record {
@@ -290,7 +298,7 @@ pub line_done : (now d : Diagram) → Keeps now d → (whole : Cond) (hash place
 line_done now d keeps whole hash place macros former same run Number given truths refused came j node
     meaning given_is value_is failing_is =
     let now_read = line_read now d keeps whole came.good hash place macros run Number given truths
-        refused j node meaning in
+    refused j node meaning in
     record {
       is_read = subst (λ (m : List Bool → List ℕ → Macro). IsRead d whole
           (line_reads hash place m run) (HasTruth d came.value) came.given came.good came.failing)
@@ -353,7 +361,7 @@ line_start d c never hash place table run outcomes given truths refused a node n
     }))
   where
     start : IsSorted d c (line_reads hash place (meaning_in d table) run) [] (conditions outcomes)
-          (line_reads hash place (meaning_in d table) run) (never ∷ never ∷ []) truth_left []
+        (line_reads hash place (meaning_in d table) run) (never ∷ never ∷ []) truth_left []
     start = record {
       node = node;
       given_nodes = tt;
@@ -411,10 +419,12 @@ line_too_many old d c hash place table run conds many =
     has_too_many d c c (line_reads hash place (meaning_in old table) run) place
     (HaveOneFace Line run 0 old table) conds many (λ values h. h)
     (λ values others h k both.
-      sym (face_only hash place (meaning_in old table) run values both.0 both.1)
-      ∙ face_only hash place (meaning_in old table) run others both.0 both.2)
-    (λ values h. ((episode Line run 0 (meaning_in old table values)).face,
-      face_there hash place (meaning_in old table) run values))
+    sym (face_only hash place (meaning_in old table) run values both.0 both.1)
+    ∙ face_only hash place (meaning_in old table) run others both.0 both.2)
+    (λ values h. (
+      (episode Line run 0 (meaning_in old table values)).face,
+      face_there hash place (meaning_in old table) run values,
+    ))
 
 ------ where it stands
 
@@ -434,8 +444,9 @@ line_same at hash place macros line t first stands =
     let begins = first_of line t first in
     subst (λ (xs : List PpTok). line_reads hash place macros xs
     ≡ (λ values. expression_truth at (macros values) hash xs)) (sym begins.1)
-    (ap (λ (p : Place) (values : List Bool). met_on_line hash p
-    (episode Line (t ∷ begins.0) 0 (macros values))) stands)
+    (let by_place : Place → List Bool → Reading Bool =
+    λ p values. met_on_line hash p (episode Line (t ∷ begins.0) 0 (macros values)) in
+    ap by_place stands)
 
 -- a line without a token
 pub line_empty : (d : Diagram) (whole : Cond) (at : Entered) (hash : Place)
@@ -473,3 +484,9 @@ pub found_weaker : {T : Type 0} (P P' : Came T → Type 0) (Q Q' : Place → Lis
     → (f : Found T) → IfFound P Q f → IfFound P' Q' f
 found_weaker P P' Q Q' p q (found.Came came) h = p came h
 found_weaker P P' Q Q' p q (found.TooMany t) h = q t.place t.conds h
+
+-- the conditions of a fault, at its place
+pub excess : (P : List Cond → Type 0) (place : Place) (fault : ExpandFault) (t : TooMany)
+    → IsFaultAt place fault t → IfTooMany P fault → (t.place ≡ place) × P t.conds
+excess P place (expand_fault.TooMany conds) t h p = (h.0, subst P (sym h.1) p)
+excess P place expand_fault.Memory t h p = absurd h

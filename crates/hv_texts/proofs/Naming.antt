@@ -190,8 +190,10 @@ module _ (old mid new : Diagram) (first : Keeps old mid) (second : Keeps mid new
     right = λ values h. (
       is_defined (macros values),
       ap (λ (r : Reading Bool). r.ending) (reads values),
-      (holds_told values ∙ ap (λ (b : Bool). cond b (is_defined (macros values)) false) h,
-        fails_told values ∙ ap (λ (b : Bool). cond b (not (is_defined (macros values))) false) h),
+      (
+        holds_told values ∙ ap (λ (b : Bool). cond b (is_defined (macros values)) false) h,
+        fails_told values ∙ ap (λ (b : Bool). cond b (not (is_defined (macros values))) false) h,
+      ),
     );
     refused_there = λ k x l. absurd (omega arith);
   }

@@ -47,7 +47,7 @@ module _ (d : Diagram) (table : MacroTable) (ends : RunEnd) (run : List PpTok) (
       → holds d c values ≡ true
   holds_there values i h x =
       let some = count_at d values (conditions outcomes) i x.cond (within_at values i h)
-          (cond_at values i h x) in
+      (cond_at values i h x) in
       let one = a.parts.one values in
       if_one (holds d c values) (omega arith)
 
@@ -57,8 +57,7 @@ module _ (d : Diagram) (table : MacroTable) (ends : RunEnd) (run : List PpTok) (
       → ((i ≡ j) ↔ ((episode ends run at (meaning_in d table values)).face
       ≡ (episode ends run at (meaning_in d table others)).face))
   once x values others i j hi hj =
-      let face = a.by_face i x hi.within values others (hi.here x) (holds_there others j hj x) in
-      (
+      let face = a.by_face i x hi.within values others (hi.here x) (holds_there others j hj x) in (
         λ e. face.0 (ap (λ (k : ℕ). holds d (slice_index_or outcomes k x).cond others) e
             ∙ hj.here x),
         λ same.

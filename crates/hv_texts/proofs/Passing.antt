@@ -1,10 +1,10 @@
 -- A text of which all positions are passed, and where it stands.
-use Rattle.std.proofs.Common.{◌≡◌, ◌+◌, ◌-◌, ◌<◌, ◌≤◌, ◌↔◌, ℕ, zero, suc, Bool, true, List, [], ◌∷◌, ◌++◌, length, drop, get_or, refl, sym, ◌∙◌, ap, subst, arith}
-use Rattle.std.specs.Prelude.{All, slice_index_or}
+use Rattle.std.proofs.Common.{◌≡◌, ◌+◌, ◌-◌, ◌<◌, ◌≤◌, ◌↔◌, ℕ, zero, suc, Bool, true, false, List, [], ◌∷◌, ◌++◌, length, drop, get_or, replicate, refl, sym, ◌∙◌, ap, subst, arith}
+use Rattle.std.specs.Prelude.{All, slice_index_or, slice_set}
 use Rattle.std.proofs.lemmas.List.{drop_all, drop_more}
 use Rattle.hv_base.specs.declared.place.Place.{Place}
 use Rattle.hv_cond.specs.Diagram.{Diagram, IsNode, Keeps, holds}
-use Rattle.hv_cond.specs.Laws.{Keeps-trans}
+use Rattle.hv_cond.specs.Laws.{Keeps-refl, Keeps-trans}
 use Rattle.hv_cond.specs.Parts.{IsPartition, count_satisfied}
 use Rattle.hv_cond.specs.declared.conditions.Cond.{Cond}
 use Rattle.hv_expand.specs.Outcomes.{AreNumbered, ComesTo, IsOfOneFace, IsRight, conditions}
@@ -23,8 +23,9 @@ use Rattle.hv_plainpp.specs.Reading.{Reading, continued}
 use Rattle.hv_plainpp.specs.Text.{episodes, with_episode}
 use Rattle.hv_texts.proofs.Counting.{bit, count_cons}
 use Rattle.hv_texts.proofs.Sorting.{are_met, divides, refused_so}
-use Rattle.hv_texts.proofs.Walking.{turn_start, walk_next}
-use Rattle.hv_texts.specs.Readings.{AreFew, AreMet, Ends, IsOriginOf}
+use Rattle.hv_texts.proofs.Walking.{turn_start, walk_next, walk_start}
+use Rattle.hv_texts.specs.Faces.{HasTooMany}
+use Rattle.hv_texts.specs.Readings.{AreApart, AreFew, AreMet, Ends, IsOriginOf}
 use Rattle.hv_texts.specs.declared.came.Came.{Came}
 use Rattle.hv_texts.specs.declared.origin.Origin.{Origin}
 use Rattle.hv_texts.specs.working.Sorting.{IsSorted, pairs}
@@ -53,13 +54,13 @@ walk_end d whole origin ends macros run at came given reached refused w within a
     (ap (λ (k : ℕ). get_or reached k came.good) (sym last) ∙ sym (good_is came.good))
     ∙ ap (λ (xs : List Cond). came.good ∷ xs) (drop_all (at + 1) reached (omega (arith, w.long)))) in
     let s : IsSorted d whole read given [] read (came.good ∷ []) (rests origin ends macros [])
-        refused =
+    refused =
     subst (λ (xs : List Cond). IsSorted d whole read given [] read xs (rests origin ends macros [])
-        refused) slot
-        (subst (λ (xs : List PpTok). IsSorted d whole read given [] read (drop at reached)
-        (rests origin ends macros xs) refused) (drop_all at run all) w.sorted) in
+    refused) slot
+    (subst (λ (xs : List PpTok). IsSorted d whole read given [] read (drop at reached)
+    (rests origin ends macros xs) refused) (drop_all at run all) w.sorted) in
     let met = are_met d whole came.good read given read (came.good ∷ []) (rests origin ends macros [])
-        refused s s.slot_nodes.0 (one came.good) none in
+    refused s s.slot_nodes.0 (one came.good) none in
     record {
       met = subst (λ (gs : List Given). AreMet d whole gs read) (sym given_is) met;
       few = subst (λ (gs : List Given). AreFew gs) (sym given_is) w.few;
@@ -122,9 +123,9 @@ place_same : (origin : Origin) (at : Entered) → IsOriginOf origin at → (t : 
     → place_of (entered origin) t ≡ place_of at t
 place_same origin at is t =
     ap (λ (f : ℕ). let p : Place = record
-        { stack = origin.stack; file = f; offset = t.span.start } in p) is.file
+    { stack = origin.stack; file = f; offset = t.span.start } in p) is.file
     ∙ ap (λ (s : List ℕ). let p : Place = record
-        { stack = s; file = at.file.number; offset = t.span.start } in p) is.stack
+    { stack = s; file = at.file.number; offset = t.span.start } in p) is.stack
 
 continued_same : (first : Place) (n : ℕ) (face : List Event) (r : Result)
     (going other : ℕ → Reading (Unit {0})) → ((own : ℕ) → going own ≡ other own)
@@ -230,3 +231,42 @@ turn_last old new now whole origin ends table run at place Number given reached 
     reached refused) (all_macros keeps table is)
     (walk_next now whole origin ends (meaning_in new table) run at place Number given reached
     refused t)
+
+------ the whole text
+
+pub expanding_start : (d : Diagram) (whole : Cond) (origin : Origin) (ends : RunEnd)
+    (table : MacroTable) (run : List PpTok) (len : ℕ) (given : List Given) (reached : List Cond)
+    (refused : List Failing) → IsNode d whole
+    → (never : Cond) × IsNode d never × ((values : List Bool) → holds d never values ≡ false)
+    × (reached ≡ slice_set (replicate (len + 1) never) 0 whole)
+    → len ≡ length run → given ≡ [] → refused ≡ []
+    → IsExpanding d d whole origin ends table run 0 given reached refused
+expanding_start d whole origin ends table run len given reached refused node never long no_given
+    no_refused =
+    record {
+      keeps = Keeps-refl d;
+      within = omega arith;
+      walk = walk_start d whole never.0 origin ends (meaning_in d table) run len given reached refused
+          node never.1 never.2 long never.3 no_given no_refused;
+    }
+
+pub expanding_end : (old now : Diagram) (whole : Cond) (origin : Origin) (ends : RunEnd)
+    (table : MacroTable) (run : List PpTok) (at : ℕ) (came : Came (Unit {0}))
+    (given : List Given) (reached : List Cond) (refused : List Failing)
+    → IsExpanding old now whole origin ends table run at given reached refused
+    → length run ≤ at → came.given ≡ given → came.failing ≡ refused
+    → ((x : Cond) → came.good ≡ slice_index_or reached (length reached - 1) x)
+    → IsTextRead now whole run (reads origin ends (meaning_in old table) run) came
+expanding_end old now whole origin ends table run at came given reached refused e all given_is
+    failing_is good_is =
+    walk_end now whole origin ends (meaning_in old table) run at came given reached refused e.walk
+    (let l = e.within in omega arith) all given_is failing_is good_is
+
+pub expanding_fails : (old now new : Diagram) (whole : Cond) (origin : Origin) (ends : RunEnd)
+    (table : MacroTable) (run : List PpTok) (place : Place) (conds : List Cond)
+    → Keeps old now → IsTableOf old table
+    → (AreApart run → HasTooMany new whole (reads origin ends (meaning_in now table) run) place conds)
+    → AreApart run → HasTooMany new whole (reads origin ends (meaning_in old table) run) place conds
+expanding_fails old now new whole origin ends table run place conds keeps t many apart =
+    subst (λ (m : List Bool → List ℕ → Macro). HasTooMany new whole (reads origin ends m run) place
+    conds) (all_macros keeps table t) (many apart)

@@ -209,10 +209,10 @@ module _ {A : Type 0} (d : Diagram) (whole : Cond) (read : List Bool → Reading
             let sum = s.one values in
             let set = sum_by-set (λ (x : Cond). bit (holds d x values)) slots k slot c within in
             let more = one_more (holds d (slice_index_or slots k c) values) (holds d c values)
-                (holds d slot values) (means values) (λ h there.
-                  let none = none_slots values h in
-                  let some = count_at d values slots k c within there in
-                  omega arith) in
+            (holds d slot values) (means values) (λ h there.
+            let none = none_slots values h in
+            let some = count_at d values slots k c within there in
+            omega arith) in
             omega arith;
         waiting = still_pending;
         going = λ j x l values h. at j x l values h (cases_eq j k);
@@ -394,17 +394,21 @@ module _ {A : Type 0} (d : Diagram) (whole good : Cond) (read : List Bool → Re
       step true e =
           let one = one_if (holds d good values) e in
           let is = all values in
-          let found = count_some d values slots (omega arith) in
-          (rests found.0 values, none_left found.0 values,
-            s.going found.0 good found.1 values (found.2 good))
+          let found = count_some d values slots (omega arith) in (
+            rests found.0 values,
+            none_left found.0 values,
+            s.going found.0 good found.1 values (found.2 good),
+          )
       step false e =
           let none = none_if (holds d good values) e in
           let is = all values in
           let one = one_if (holds d whole values) h in
           let sum = s.one values in
-          let found = some_refused d values refused (omega arith) in
-          (refusal found.1 found.0, refl,
-            s.refused_there values found.0 found.1 found.2)
+          let found = some_refused d values refused (omega arith) in (
+            refusal found.1 found.0,
+            refl,
+            s.refused_there values found.0 found.1 found.2,
+          )
 
   pub are_met : AreMet d whole given read
   are_met = record {

@@ -270,7 +270,7 @@ module _ (old now new : Diagram) (whole c : Cond) (origin : Origin) (ends : RunE
       (way_on at place o.end o.result) values) (face_of values)
   comes values h =
       let right = its_right old table ends run at c outcomes a done o pending is values
-          (there values h) in
+      (there values h) in
       text_goes origin ends (meaning_in old table) run at turn.token (drop (at + 1) run) place
       values o turn.first (length-drop (at + 1) run) turn.stands right.right right.goes
 
@@ -339,7 +339,7 @@ pub sorting_end : (old now : Diagram) (whole c : Cond) (origin : Origin) (ends :
 sorting_end old now whole c origin ends table run at place outcomes given o pending queue reached
     refused a within j e =
     let l = its_end old table ends run at c outcomes a j.done o pending
-        (j.is ∙ ap (λ (os : List Outcome). j.done ++ os) e) within in
+    (j.is ∙ ap (λ (os : List Outcome). j.done ++ os) e) within in
     let long = j.turn.long in
     omega arith
 
@@ -455,25 +455,27 @@ text_too_many old new whole origin ends table run at t place c given reached ref
     drop_more reached at c (omega (arith, w.long))
     ∙ ap (λ (x : Cond). x ∷ drop (at + 1) reached) (sym c_is) in
     let s : IsSorted new whole read given (c ∷ []) (rests origin ends macros (drop at run) 0)
-        (drop (at + 1) reached) (rests origin ends macros (drop (at + 1) run)) refused =
+    (drop (at + 1) reached) (rests origin ends macros (drop (at + 1) run)) refused =
     turn_sorted new whole read origin ends macros given read (drop at run) t
-        (drop (at + 1) run) (drop at reached) c (drop (at + 1) reached) refused first slot
-        (sorted_kept keeps whole read given [] read (drop at reached)
-        (rests origin ends macros (drop at run)) refused w.sorted) in
+    (drop (at + 1) run) (drop at reached) c (drop (at + 1) reached) refused first slot
+    (sorted_kept keeps whole read given [] read (drop at reached)
+    (rests origin ends macros (drop at run)) refused w.sorted) in
     let free : AreFree origin (t ∷ drop (at + 1) run) given =
     subst (λ (xs : List PpTok). AreFree origin xs given) first (w.free apart) in
     let own : IsFree place origin (drop (at + 1) run) =
     subst (λ (p : Place). IsFree p origin (drop (at + 1) run)) (sym stands)
-        (free_from origin t (drop (at + 1) run)
-        (subst AreApart first (apart_drop at run apart)).0) in
+    (free_from origin t (drop (at + 1) run)
+    (subst AreApart first (apart_drop at run apart)).0) in
     has_too_many new c whole read place (HaveOneFace ends run at old table) conds many
     (λ values h. in_whole new whole origin ends macros run at t (drop (at + 1) run) first place
-      stands c given (drop (at + 1) reached) refused s free own values h)
+    stands c given (drop (at + 1) reached) refused s free own values h)
     (λ values others h k both.
-      sym (face_only new whole origin ends macros run at t (drop (at + 1) run) first place
-      stands c given (drop (at + 1) reached) refused s free own values h both.0 both.1)
-      ∙ face_only new whole origin ends macros run at t (drop (at + 1) run) first place
-      stands c given (drop (at + 1) reached) refused s free own others k both.0 both.2)
-    (λ values h. ((episode ends run at (macros values)).face,
+    sym (face_only new whole origin ends macros run at t (drop (at + 1) run) first place
+    stands c given (drop (at + 1) reached) refused s free own values h both.0 both.1)
+    ∙ face_only new whole origin ends macros run at t (drop (at + 1) run) first place
+    stands c given (drop (at + 1) reached) refused s free own others k both.0 both.2)
+    (λ values h. (
+      (episode ends run at (macros values)).face,
       face_there new whole origin ends macros run at t (drop (at + 1) run) first place
-      stands c given (drop (at + 1) reached) refused s free own values h))
+          stands c given (drop (at + 1) reached) refused s free own values h,
+    ))

@@ -1,6 +1,10 @@
 //! What came of a part of a file, and why nothing came.
-use hv_base::{List, Place};
+ghost use Rattle.std.specs.Prelude.{IfOk};
+ghost use Rattle.hv_texts.specs.working.Steps.{IsFaultAt};
+
+use hv_base::{List, Memory, Place};
 use hv_cond::Cond;
+use hv_expand::ExpandFault;
 use hv_given::Given;
 use hv_toks::Failing;
 
@@ -46,4 +50,14 @@ pub(crate) struct TooMany {
 pub(crate) enum Found<T> {
     Came(Came<T>),
     TooMany(TooMany),
+}
+
+/// The place of an episode that has too many faces.
+pub(crate) fn too_many_at(place: Place, fault: ExpandFault) -> Result<TooMany, Memory>
+    ensures { IfOk result (IsFaultAt place fault) }
+{
+    match fault {
+        ExpandFault::TooMany { conds } => Ok(TooMany { place, conds }),
+        ExpandFault::Memory => Err(Memory),
+    }
 }

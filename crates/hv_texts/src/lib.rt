@@ -2,10 +2,12 @@
 #![tactic(auto)]
 
 mod came;
+mod judging;
 mod line;
 mod name;
 mod origin;
 mod text;
+mod walk;
 
 pub use came::{Came, TextFault, Truths};
 pub use hv_expand::RunEnd;

@@ -20,11 +20,7 @@ use hv_toks::{PpKind, PpTok};
 use std::alloc::Global;
 
 /// The two conditions with the configurations of one more alternative.
-fn with_part(
-    store: &mut Store,
-    truths: Truths,
-    part: &Alternative,
-) -> Result<Truths, Memory>
+fn with_part(store: &mut Store, truths: Truths, part: &Alternative) -> Result<Truths, Memory>
     requires holds { IsNode store.old truths.holds }
     requires fails { IsNode store.old truths.fails }
     requires cond { IsNode store.old part.now.cond }
@@ -107,9 +103,9 @@ fn name_of(tokens: &[PpTok]) -> Option<&[u8]>
     }
 }
 
-/// Whether the name after `ifdef` is a macro, in each configuration of a condition; for `ifndef` the
-/// two conditions change places. What stands after the name is ignored; without a name the line is
-/// refused at its `#`, which has this place (ISO/IEC 9899:1999, 6.10.1, paragraph 5).
+/// Whether the name after `ifdef` is a macro, in each configuration of a condition; for `ifndef`
+/// the two conditions change places. What stands after the name is ignored; without a name the line
+/// is refused at its `#`, which has this place (ISO/IEC 9899:1999, 6.10.1, paragraph 5).
 pub fn name_truth(
     alloc: Global,
     store: &mut Store,

@@ -1,5 +1,5 @@
--- How the configurations of a condition are sorted while a part of a file is read: by what is left to
--- read in them.
+-- How the configurations of a condition are sorted while a part of a file is read: by what is left
+-- to read in them.
 use Rattle.std.specs.Prelude.{ℕ, ◌≡◌, ◌+◌, ◌<◌, ◌||◌, Bool, true, false, List, [], ◌∷◌, ◌++◌, All, length, slice_index_or, slice_set, zip, if◌then◌else◌}
 use Rattle.hv_base.specs.declared.place.Place.{Place}
 use Rattle.hv_base.specs.declared.why.Why.{Why}

@@ -8,6 +8,8 @@ use Rattle.hv_cond.specs.Diagram.{Diagram, holds}
 use Rattle.hv_cond.specs.Parts.{IsPartition}
 use Rattle.hv_cond.specs.declared.conditions.Cond.{Cond}
 use Rattle.hv_expand.specs.Outcomes.{AreNumbered, IsOfOneFace, IsRight, conditions}
+use Rattle.hv_expand.specs.declared.outcome.ExpandFault.{ExpandFault}
+use Rattle.hv_expand.specs.declared.outcome.ExpandFault.TheVariants as expand_fault
 use Rattle.hv_expand.specs.declared.outcome.Expanded.{Expanded}
 use Rattle.hv_expand.specs.declared.outcome.Expanded.TheVariants.{Tokens, Fails}
 use Rattle.hv_expand.specs.declared.outcome.Outcome.{Outcome}
@@ -27,6 +29,7 @@ use Rattle.hv_texts.specs.Readings.{AreApart, AreByFace, AreFew, AreMet, AreWith
 use Rattle.hv_texts.specs.declared.came.Came.{Came}
 use Rattle.hv_texts.specs.declared.came.Found.{Found}
 use Rattle.hv_texts.specs.declared.came.Found.TheVariants as found
+use Rattle.hv_texts.specs.declared.came.TooMany.{TooMany}
 use Rattle.hv_texts.specs.declared.came.Truths.{Truths}
 use Rattle.hv_texts.specs.declared.origin.Origin.{Origin}
 use Rattle.hv_texts.specs.working.Sorting.{AreFaced, IsSorted, Way, pairs, to_refusal, to_slot}
@@ -98,6 +101,11 @@ abbrev pub IfFound : {T : Type 0} → (Came T → Type 0) → (Place → List Co
     → Type 0
 IfFound P Q (found.Came came) = P came
 IfFound P Q (found.TooMany too_many) = Q too_many.place too_many.conds
+
+-- the fault of an episode is too many faces, at this place
+abbrev pub IsFaultAt : Place → ExpandFault → TooMany → Type 0
+IsFaultAt place (expand_fault.TooMany conds) t = (t.place ≡ place) × (t.conds ≡ conds)
+IsFaultAt place expand_fault.Memory t = ⊥
 
 ------ a controlling line
 

@@ -23,3 +23,7 @@ pub returns-in-Ok-Came-clause-within : goal.returns-in-Ok-Came-clause-within
 returns-in-Ok-Came-clause-within c =
     let f = rw c.in-Ok-Came.field-0-is at c.in-Ok-Came.ensures.found in
     (f (entered c.args.origin.now) (record { file = refl; stack = refl })).within
+
+pub returns-in-Ok-TooMany-clause-too_many : goal.returns-in-Ok-TooMany-clause-too_many
+returns-in-Ok-TooMany-clause-too_many c =
+    rw c.in-Ok-TooMany.field-0-is at c.in-Ok-TooMany.ensures.found

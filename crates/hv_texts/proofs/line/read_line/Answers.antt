@@ -19,14 +19,14 @@ returns-in_default-clause-found c = λ at is.
 pub returns-clause-found : goal.returns-clause-found
 returns-clause-found c =
     IfOk-weaker c.read.result _ _ (λ f. found_weaker _ _ _ _
-      (λ came h at is. subst (λ (r : List Bool → Reading Bool).
-        IsLineRead c.read.new.store c.args.cond r came)
-        (line_same at c.args.hash.now c.in_ok-place.place
-        (meaning_in c.args.store.now c.args.table.now) c.args.line.now c.in-Some.first.now
-        c.in-Some.ensures.value (c.in_ok-place.ensures at is)) h)
-      (λ place conds h at is. subst (λ (r : List Bool → Reading Bool).
-        HasTooMany c.read.new.store c.args.cond r place conds)
-        (line_same at c.args.hash.now c.in_ok-place.place
-        (meaning_in c.args.store.now c.args.table.now) c.args.line.now c.in-Some.first.now
-        c.in-Some.ensures.value (c.in_ok-place.ensures at is)) h) f)
+    (λ came h at is. subst (λ (r : List Bool → Reading Bool).
+    IsLineRead c.read.new.store c.args.cond r came)
+    (line_same at c.args.hash.now c.in_ok-place.place
+    (meaning_in c.args.store.now c.args.table.now) c.args.line.now c.in-Some.first.now
+    c.in-Some.ensures.value (c.in_ok-place.ensures at is)) h)
+    (λ place conds h at is. subst (λ (r : List Bool → Reading Bool).
+    HasTooMany c.read.new.store c.args.cond r place conds)
+    (line_same at c.args.hash.now c.in_ok-place.place
+    (meaning_in c.args.store.now c.args.table.now) c.args.line.now c.in-Some.first.now
+    c.in-Some.ensures.value (c.in_ok-place.ensures at is)) h) f)
     c.read.ensures.found

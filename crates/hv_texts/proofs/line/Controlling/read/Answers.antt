@@ -1,6 +1,14 @@
+use Rattle.std.proofs.Common.{◌∙◌, List, subst, sym}
+use Rattle.hv_base.specs.declared.place.Place.{Place}
+use Rattle.hv_cond.specs.declared.conditions.Cond.{Cond}
+use Rattle.hv_expand.specs.Outcomes.{HaveOneFace}
+use Rattle.hv_faces.specs.Faces.{AreTooMany}
+use Rattle.hv_macros.specs.Table.{meaning_in}
 use Rattle.hv_plain.specs.declared.episode.RunEnd.TheVariants.{Line}
-use Rattle.hv_texts.proofs.Lines.{line_done, line_start, line_too_many}
+use Rattle.hv_texts.proofs.Lines.{excess, line_done, line_start, line_too_many}
 use Rattle.hv_texts.proofs.Passing.{all_macros, outcomes_now}
+use Rattle.hv_texts.specs.Faces.{HasTooMany}
+use Rattle.hv_texts.specs.working.Steps.{line_reads}
 use Rattle.hv_texts.proofs.line.Controlling.read.Goals as goal
 
 pub judge_all-requires-clause-outcomes : goal.judge_all-requires-clause-outcomes
@@ -31,5 +39,16 @@ returns-in_ok-finish-in-Ok-clause-found c =
     c.in_ok-finish-in-Ok.ensures.good c.in_ok-finish-in-Ok.ensures.given
     c.in_ok-finish-in-Ok.ensures.value c.in_ok-finish-in-Ok.ensures.failing
 
-pub returns-in_ok-copy-in-Err-TooMany-clause-found : goal.returns-in_ok-copy-in-Err-TooMany-clause-found
-returns-in_ok-copy-in-Err-TooMany-clause-found c = ?
+pub returns-in_ok-too_many_at-in-Err-clause-found : goal.returns-in_ok-too_many_at-in-Err-clause-found
+returns-in_ok-too_many_at-in-Err-clause-found c =
+    let P : List Cond → Type 0 = AreTooMany c.expand_episode.new.store c.args.cond
+    (HaveOneFace Line c.args.self.now.line.now 0 c.args.store.now c.args.self.now.table.now) in
+    let e = excess P c.in_ok-place-in-Err.place c.in-Err.fault c.in_ok-too_many_at-in-Err.field-0
+    c.in_ok-too_many_at-in-Err.ensures c.in-Err.ensures.too_many in
+    subst (λ (p : Place). HasTooMany c.expand_episode.new.store c.args.cond
+    (line_reads c.args.self.now.hash.now c.args.self.now.place.now
+    (meaning_in c.args.store.now c.args.self.now.table.now) c.args.self.now.line.now) p
+    c.in_ok-too_many_at-in-Err.field-0.conds) (sym (e.0 ∙ c.in_ok-place-in-Err.ensures))
+    (line_too_many c.args.store.now c.expand_episode.new.store c.args.cond
+    c.args.self.now.hash.now c.args.self.now.place.now c.args.self.now.table.now
+    c.args.self.now.line.now c.in_ok-too_many_at-in-Err.field-0.conds e.1)
