@@ -20,6 +20,10 @@ use Rattle.hv_toks.specs.Spelled.{Spelled}
 
 ------ identities
 
+-- the place of a token's episode
+abbrev place_of : Identity → Place
+place_of i = i.place
+
 -- two identities have one place and one index
 abbrev Same : Identity → Identity → Type 0
 Same i j = (i.place ≡ j.place) × (i.index ≡ j.index)
@@ -92,30 +96,30 @@ Reached P (refused why place) = Unit {0}
 
 token_new : (i j : Identity) → ¬ (Same i j) → (r : Result CTok Why)
     (rest : Ending (List (CTok × Identity))) → Reached (IsNew i) rest
-    → Reached (IsNew i) (with_token r j rest)
+    → Reached (IsNew i) (with_token place_of r j rest)
 token_new i j h (Err why) rest p = tt
 token_new i j h (Ok tok) (refused why place) p = tt
 token_new i j h (Ok tok) (reaches toks) p = (h, p)
 
 c_new : (reserved : ReservedNames) (i : Identity) (ts : List (Spelled × Identity)) → Fresh i ts
-    → Reached (IsNew i) (c_tokens reserved ts)
+    → Reached (IsNew i) (c_tokens place_of reserved ts)
 c_new reserved i [] h = tt
 c_new reserved i (t ∷ ts) h =
-    token_new i t.1 h.0 (converted reserved t.0.kind t.0.text) (c_tokens reserved ts)
+    token_new i t.1 h.0 (converted reserved t.0.kind t.0.text) (c_tokens place_of reserved ts)
     (c_new reserved i ts h.1)
 
 token_differ : (j : Identity) (r : Result CTok Why) (rest : Ending (List (CTok × Identity)))
     → Reached (IsNew j) rest → Reached DifferInStart rest
-    → Reached DifferInStart (with_token r j rest)
+    → Reached DifferInStart (with_token place_of r j rest)
 token_differ j (Err why) rest p q = tt
 token_differ j (Ok tok) (refused why place) p q = tt
 token_differ j (Ok tok) (reaches toks) p q = (p, q)
 
 c_differ : (reserved : ReservedNames) (ts : List (Spelled × Identity)) → Differ ts
-    → Reached DifferInStart (c_tokens reserved ts)
+    → Reached DifferInStart (c_tokens place_of reserved ts)
 c_differ reserved [] h = tt
 c_differ reserved (t ∷ ts) h =
-    token_differ t.1 (converted reserved t.0.kind t.0.text) (c_tokens reserved ts)
+    token_differ t.1 (converted reserved t.0.kind t.0.text) (c_tokens place_of reserved ts)
     (c_new reserved t.1 ts h.0) (c_differ reserved ts h.1)
 
 ------ string literals that are joined
@@ -167,7 +171,7 @@ strings_differ (refused why place) p = tt
 ending_differ : {A : Type 0} (reserved : ReservedNames) (ms : List Met) (o : Ending A)
     → DifferInPlace ms → Reached DifferInStart (ending_of reserved (record { met = ms; ending = o }))
 ending_differ reserved ms (reaches value) h =
-    strings_differ (c_tokens reserved (given ms)) (c_differ reserved (given ms) (given_differ ms h))
+    strings_differ (c_tokens place_of reserved (given ms)) (c_differ reserved (given ms) (given_differ ms h))
 ending_differ reserved ms (refused why place) h = tt
 
 pub starts_differ : StartsDiffer

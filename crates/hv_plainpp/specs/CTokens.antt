@@ -29,18 +29,20 @@ identified place face index (s ∷ tokens) =
 abbrev pub given : List Met → List (Spelled × Identity)
 given episodes = flat_map (λ (m : Met). identified m.place m.face 0 m.gives) episodes
 
--- the tokens of C with one more before them, or its refusal, which stands at its episode's place
-abbrev pub with_token : Result CTok Why → Identity → Ending (List (CTok × Identity))
-    → Ending (List (CTok × Identity))
-with_token (Err why) identity rest = refused why identity.place
-with_token (Ok tok) identity (refused why place) = refused why place
-with_token (Ok tok) identity (reaches tokens) = reaches ((tok, identity) ∷ tokens)
+-- the tokens of C with one more before them, or its refusal, which stands at its place. What
+-- identifies a token may be anything that has a place
+abbrev pub with_token : {I : Type 0} → (I → Place) → Result CTok Why → I → Ending (List (CTok × I))
+    → Ending (List (CTok × I))
+with_token place (Err why) identity rest = refused why (place identity)
+with_token place (Ok tok) identity (refused why at) = refused why at
+with_token place (Ok tok) identity (reaches tokens) = reaches ((tok, identity) ∷ tokens)
 
 -- the tokens of C that preprocessing tokens become one by one, or the first refusal
-abbrev pub c_tokens : ReservedNames → List (Spelled × Identity) → Ending (List (CTok × Identity))
-c_tokens reserved [] = reaches []
-c_tokens reserved (t ∷ tokens) =
-    with_token (converted reserved t.0.kind t.0.text) t.1 (c_tokens reserved tokens)
+abbrev pub c_tokens : {I : Type 0} → (I → Place) → ReservedNames → List (Spelled × I)
+    → Ending (List (CTok × I))
+c_tokens place reserved [] = reaches []
+c_tokens place reserved (t ∷ tokens) = with_token place (converted reserved t.0.kind t.0.text) t.1
+    (c_tokens place reserved tokens)
 
 -- the same with adjacent string literals joined; the first part identifies the joined one
 abbrev pub with_strings_joined : Ending (List (CTok × Identity)) → Ending (List (CTok × Identity))
@@ -50,6 +52,7 @@ with_strings_joined (refused why place) = refused why place
 -- how a translation unit ends: a refusal of preprocessing comes before those of tokens of C
 abbrev pub ending_of : {A : Type 0} → ReservedNames → Reading A → Ending (List (CTok × Identity))
 ending_of reserved unit = elim unit.ending [
-  | reaches value ↦ with_strings_joined (c_tokens reserved (given unit.met))
+  | reaches value ↦
+    with_strings_joined (c_tokens (λ (i : Identity). i.place) reserved (given unit.met))
   | refused why place ↦ refused why place
 ]

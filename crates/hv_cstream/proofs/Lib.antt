@@ -1,0 +1,5 @@
+-- Lemmas of this crate.
+mod Endings
+mod Starts
+mod Converting
+mod Entries
