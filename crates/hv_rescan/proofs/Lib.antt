@@ -1,0 +1,10 @@
+mod ArgumentLists
+mod Ends
+mod Fillings
+mod Invocations
+mod Parts
+mod Questions
+mod Runs
+mod Scans
+mod Texts
+mod Tokens
