@@ -1,0 +1,8 @@
+-- What is asked of a name, a run under the configurations that have made the same events, and the
+-- steps of the code.
+pub mod Questions
+pub mod Going
+pub mod Kept
+pub mod Moves
+pub mod Numbers
+pub mod Steps
