@@ -1,9 +1,9 @@
 -- Replacement lists and parameters, token by token.
-use Rattle.std.proofs.Common.{◌≡◌, ◌∙◌, ◌+◌, ◌<◌, ◌≤◌, ℕ, zero, suc, Bool, true, false, ◌&&◌, ◌||◌, not, List, [], ◌∷◌, ◌++◌, codes, refl, sym, ap, arith, length, get_or, append_assoc, append-nil, Option, Some, None}
+use Rattle.std.proofs.Common.{◌≡◌, ◌∙◌, ◌+◌, ◌<◌, ℕ, zero, suc, Bool, true, ◌&&◌, ◌||◌, not, List, [], ◌∷◌, ◌++◌, codes, refl, sym, ap, arith, length, get_or, append_assoc, Option, Some, None}
 use Rattle.hv_toks.specs.declared.token.PpTok.{PpTok}
 use Rattle.hv_plain.specs.episode.Bodies.{is_paste}
 use Rattle.hv_plain.specs.episode.Episode.{has_text}
-use Rattle.hv_plainpp.specs.Definitions.{Parameters, begins_with_parameter, ends_with_paste, no_more, quotes_parameters, some_parameters, with_name}
+use Rattle.hv_plainpp.specs.Definitions.{Parameters, begins_with_parameter, ends_with_paste, quotes_parameters, some_parameters, with_name}
 use Rattle.hv_directives.specs.working.Steps.{with_names}
 
 ------ ends_with_paste

@@ -1,5 +1,5 @@
 -- How the lines of tokens begin, and the pieces that they are.
-use Rattle.std.proofs.Common.{◌≡◌, ◌≤◌, ◌∙◌, ℕ, suc, Bool, true, false, List, [], ◌∷◌, ◌++◌, refl, sym, ap, take, drop, arith, one-add}
+use Rattle.std.proofs.Common.{◌≡◌, ◌≤◌, ◌∙◌, ℕ, suc, Bool, true, false, List, [], ◌∷◌, refl, sym, ap, take, drop, arith, one-add}
 use Rattle.std.specs.List.{position_or_len}
 use Rattle.hv_toks.specs.declared.token.PpTok.{PpTok}
 use Rattle.hv_plain.specs.declared.episode.RunEnd.{RunEnd}

@@ -1,5 +1,5 @@
 -- Lists that begin or end with certain elements, as a slice's pattern finds them.
-use Rattle.std.proofs.Common.{◌≡◌, ◌∙◌, ℕ, zero, suc, ◌-◌, ◌≤◌, List, [], ◌∷◌, refl, sym, ap, arith, length, take, drop, get_or}
+use Rattle.std.proofs.Common.{◌≡◌, ◌∙◌, ◌-◌, ◌≤◌, List, [], ◌∷◌, sym, ap, arith, length, take, drop, get_or}
 use Rattle.hv_base.proofs.Lists.{take-rest}
 
 cons_of : {X : Type 0} (xs : List X) (x : X) → 1 ≤ length xs → x ≡ get_or xs 0 x

@@ -35,7 +35,14 @@ fn function_body(alloc: Global, tokens: &[PpTok]) -> Result<Option<Body>, Memory
     ensures { IfOk result (λ body.
         body ≡ definitions.function_body (definitions.parameters_in tokens.now)) }
 {
-    let Some(Parameters { names, variadic, after }) = parameters_in(alloc, tokens)? else {
+    let Some(
+        Parameters {
+            names,
+            variadic,
+            after,
+        },
+    ) = parameters_in(alloc, tokens)?
+    else {
         return Ok(None);
     };
     Ok(Some(Body::Function {

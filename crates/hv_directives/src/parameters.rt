@@ -38,7 +38,11 @@ fn read_pair(token: &PpTok, mark: &PpTok) -> Pair
 {
     let closes = mark.text.as_slice() == b")".as_slice();
     if token.text.as_slice() == b"...".as_slice() {
-        return if closes { Pair::Variadic } else { Pair::Malformed };
+        return if closes {
+            Pair::Variadic
+        } else {
+            Pair::Malformed
+        };
     }
     if token.kind != PpKind::Identifier {
         return Pair::Malformed;
@@ -54,10 +58,7 @@ fn read_pair(token: &PpTok, mark: &PpTok) -> Pair
 
 /// A list of one parameter at least, or of `...` alone, up to its `)`; `None` where the tokens
 /// don't begin so.
-fn some_parameters<'a>(
-    alloc: Global,
-    tokens: &'a [PpTok],
-) -> Result<Option<Parameters<'a>>, Memory>
+fn some_parameters<'a>(alloc: Global, tokens: &'a [PpTok]) -> Result<Option<Parameters<'a>>, Memory>
     ensures { IfOk result (λ ps.
         option_map parameters_of ps ≡ definitions.some_parameters tokens.now) }
 {

@@ -39,5 +39,9 @@ returns-clause-fewer c =
     let cons = one_first c.args.tokens.now c.token-item.result c.in-len1-up.len_at_least
     c.token-item.is in
     let begins : begins_directive c.token-item.result ≡ false = cc in
-    omega (arith, c.text_len.ensures, c.split_at-2.ensures.back_len,
-    text_len-cons c.args.tokens.now c.token-item.result _ cons begins)
+    omega (
+      arith,
+      c.text_len.ensures,
+      c.split_at-2.ensures.back_len,
+      text_len-cons c.args.tokens.now c.token-item.result _ cons begins,
+    )
