@@ -1,3 +1,3 @@
 -- What only private functions and proofs cite.
-pub mod Parameters
+pub mod ParameterSet
 pub mod Steps

@@ -6,6 +6,7 @@ mod definition;
 mod directive;
 mod header;
 mod name;
+mod parameter_set;
 mod parameters;
 mod piece;
 mod replacement;

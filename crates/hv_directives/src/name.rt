@@ -8,7 +8,6 @@ use hv_toks::{PpKind, PpTok};
 
 /// The names that no source defines or undefines: `defined`, `__VA_ARGS__` and those of the
 /// predefined macros (ISO/IEC 9899:1999, 6.10.3, paragraph 5; 6.10.8, paragraph 4).
-// SAME: kept names
 const KEPT_NAMES: [&str; 5] = [
     "defined",
     "__VA_ARGS__",

@@ -5,7 +5,7 @@ use Rattle.hv_base.specs.Ascii.{is_among}
 use Rattle.hv_model.proofs.ConfigLemmas.{are_distinct-push}
 use Rattle.hv_model.specs.Name.{are_distinct}
 use Rattle.hv_directives.proofs.NamesLemmas.{are_distinct-seen, has, has-insert}
-use Rattle.hv_directives.proofs.replacement.distinct.Goals as goal
+use Rattle.hv_directives.proofs.parameter_set.distinct.Goals as goal
 
 pub returns-then-not-branch-clause-none : goal.returns-then-not-branch-clause-none
 returns-then-not-branch-clause-none c =

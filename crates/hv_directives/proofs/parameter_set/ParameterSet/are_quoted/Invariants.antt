@@ -1,7 +1,7 @@
 use Rattle.std.proofs.Common.{◌≡◌, length}
 use Rattle.hv_plainpp.specs.Definitions.{quotes_parameters}
-use Rattle.hv_directives.specs.working.Parameters.{names_of}
-use Rattle.hv_directives.proofs.replacement.Parameters.are_quoted.Given as goal
+use Rattle.hv_directives.specs.working.ParameterSet.{names_of}
+use Rattle.hv_directives.proofs.parameter_set.ParameterSet.are_quoted.Given as goal
 
 -- the tokens so far are well
 abbrev pub invariant-loop-rest : goal.invariant-loop-rest

@@ -2,7 +2,7 @@ use Rattle.std.proofs.Common.{◌≡◌, ℕ, List, true, take}
 use Rattle.hv_base.specs.Ascii.{is_among}
 use Rattle.hv_model.specs.Name.{are_distinct}
 use Rattle.hv_directives.proofs.NamesLemmas.{has}
-use Rattle.hv_directives.proofs.replacement.distinct.Given as goal
+use Rattle.hv_directives.proofs.parameter_set.distinct.Given as goal
 
 -- the names so far are distinct, and the set has them
 abbrev pub invariant-loop-name : goal.invariant-loop-name
