@@ -69,7 +69,8 @@ fn body_of(alloc: Global, tokens: &[PpTok]) -> Result<Option<Body>, Memory>
 /// The definition that a `#define` line makes, by the tokens after `define`. `None` where the line
 /// isn't well-formed (6.10.3, 6.10.3.2, 6.10.3.3, 6.10.3.5, 6.10.8).
 pub fn definition_on(alloc: Global, line: &[PpTok]) -> Result<Option<Definition>, Memory>
-    ensures { IfOk result (λ found. option_map definition_of found ≡ definitions.definition line.now) }
+    ensures meaning { IfOk result (λ found.
+        option_map definition_of found ≡ definitions.definition line.now) }
 {
     let [name, tokens @ ..] = line else {
         return Ok(None);

@@ -79,7 +79,7 @@ fn named<'a>(name: &[u8], tokens: &'a [PpTok]) -> Directive<'a>
 
 /// The directive of a line, by the tokens after its `#`.
 pub fn directive_on(line: &[PpTok]) -> Directive<'_>
-    ensures { values.directive_of result ≡ directives.directive_of line.now }
+    ensures meaning { values.directive_of result ≡ directives.directive_of line.now }
 {
     match line {
         [] => Directive::Action(Action::Ignored),

@@ -60,7 +60,7 @@ fn header_of(text: &[u8]) -> Header<'_>
 /// The header that an `#include` line names, by the tokens after `include`. What follows it is
 /// ignored. `None` where no header name stands there, or one with a byte that isn't printable.
 pub fn header_on(line: &[PpTok]) -> Option<Header<'_>>
-    ensures { option_map value_of result ≡ preprocessing.header_on line.now }
+    ensures meaning { option_map value_of result ≡ preprocessing.header_on line.now }
 {
     match line {
         [name, ..] if is_mention(name) => Some(header_of(name.text.as_slice())),

@@ -16,3 +16,6 @@ pub use directive::{Action, Conditional, Directive, Question, directive_on};
 pub use header::{Header, header_on};
 pub use name::undefined_name;
 pub use piece::{Piece, pieces};
+
+#[cfg(test)]
+mod tests;

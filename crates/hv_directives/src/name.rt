@@ -26,7 +26,7 @@ pub(crate) fn is_free_name(token: &PpTok) -> bool
 /// The name that an `#undef` line removes, by the tokens after `undef` (6.10.3.5). What follows the
 /// name is ignored. `None` where no name stands there, or one that no source undefines.
 pub fn undefined_name(line: &[PpTok]) -> Option<&[u8]>
-    ensures { option_map (λ name. name.now) result ≡ definitions.undefined_name line.now }
+    ensures meaning { option_map (λ name. name.now) result ≡ definitions.undefined_name line.now }
 {
     match line {
         [name, ..] if is_free_name(name) => Some(name.text.as_slice()),

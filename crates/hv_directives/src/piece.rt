@@ -78,7 +78,7 @@ fn first_piece(tokens: &[PpTok]) -> Option<(Piece<'_>, &[PpTok])>
 
 /// The tokens of a file as its pieces, in order.
 pub fn pieces<'a>(alloc: Global, tokens: &'a [PpTok]) -> Result<Vec<Piece<'a>>, Memory>
-    ensures { IfOk result
+    ensures meaning { IfOk result
         (λ pieces. map piece_of pieces.items ≡ lines.pieces_of (lines.lines_of tokens.now)) }
 {
     let mut pieces = Vec::new(alloc);
