@@ -61,9 +61,26 @@ fn shown_pieces(alloc: Global, source: &str) -> Result<Text, Memory> {
 
 #[test]
 fn a_file_is_cut_into_texts_and_directives(rt: HostRuntime) -> Result<(), Fail> {
-    let source = "int a;\nint # b;\n#\n#define X \\\n 1\nc\n  /* */ # if X\n# endif\nd\ne";
-    let shown =
-        "text int a ; int # b ; |\nline\nline define X 1\ntext c |\nline if X\nline endif\ntext d e .\n";
+    let source = "\
+int a;
+int # b;
+#
+#define X \\
+ 1
+c
+  /* */ # if X
+# endif
+d
+e";
+    let shown = "\
+text int a ; int # b ; |
+line
+line define X 1
+text c |
+line if X
+line endif
+text d e .
+";
     let found = shown_pieces(rt.alloc(), source)?;
     assert!(rt; found.is_text(shown.as_bytes()));
     assert!(rt; shown_pieces(rt.alloc(), "")?.is_empty());
