@@ -1,6 +1,5 @@
 -- A turn of the loop over the tokens.
-use Rattle.std.specs.Prelude.{nat_le}
-use Rattle.std.proofs.Common.{◌≡◌, ℕ, suc, ◌+◌, ◌<◌, Bool, true, false, cond, List, [], ◌∷◌, length, get_or, drop, drop-cons, map, Option, Some, None, refl, sym, ap, ◌∙◌, arith, subst}
+use Rattle.std.proofs.Common.{◌≡◌, ℕ, suc, ◌+◌, ◌<◌, Bool, true, false, cond, List, [], ◌∷◌, length, get_or, drop, drop-cons, Option, Some, None, refl, sym, ap, ◌∙◌, arith}
 use Rattle.std.proofs.lemmas.Option.{none-some}
 use Rattle.hv_base.specs.declared.why.Why.{Why}
 use Rattle.hv_base.specs.declared.why.Why.TheVariants.{Syntax, TooDeep}
@@ -9,7 +8,7 @@ use Rattle.hv_toks.specs.declared.stream.Classified.{Classified}
 use Rattle.hv_grammar.specs.Symbols.{Token}
 use Rattle.hv_grammar.specs.Refusal.{Limits}
 use Rattle.hv_grammar.specs.machine.Frames.{State}
-use Rattle.hv_grammar.specs.machine.Steps.{Taken, step, finished, want}
+use Rattle.hv_grammar.specs.machine.Steps.{Taken, step, finished}
 use Rattle.hv_grammar.specs.machine.Answers.{Answer, Accepted, Refused, keeps, operators_after, at_end, answer}
 use Rattle.hv_cparse.specs.declared.frame.Frame.{Frame}
 use Rattle.hv_cparse.specs.declared.frame.At.{At}

@@ -1,6 +1,6 @@
 -- What the control answers of a token is what the pure machine does with it.
 use Rattle.std.specs.Prelude.{nat_le}
-use Rattle.std.proofs.Common.{◌≡◌, ℕ, suc, Bool, true, false, cond, List, [], ◌∷◌, Option, Some, None, Result, Ok, Err, IfOk, refl, sym, ap, ◌∙◌, subst}
+use Rattle.std.proofs.Common.{◌≡◌, ℕ, Bool, false, cond, List, [], ◌∷◌, Option, Some, None, Result, Ok, Err, IfOk, refl, sym, ap, ◌∙◌, subst}
 use Rattle.hv_base.specs.declared.memory.Memory.{Memory}
 use Rattle.hv_base.specs.declared.place.Place.{Place}
 use Rattle.hv_base.specs.declared.why.Why.{Why}
@@ -24,9 +24,9 @@ use Rattle.hv_cparse.specs.declared.class.Class.TheVariants.{Marked}
 use Rattle.hv_cparse.specs.Control as control
 use Rattle.hv_cparse.specs.Control.{IsControl, frames_of, frames_at, terminals, at_of, class_of}
 use Rattle.hv_cparse.specs.working.Counts as counts
-use Rattle.hv_cparse.specs.working.Tables.{Reduced, reduce, reduced}
+use Rattle.hv_cparse.specs.working.Tables.{reduced}
 use Rattle.hv_cparse.specs.working.Steps as steps
-use Rattle.hv_cparse.specs.working.Seen.{seen, role_in, reduced_in}
+use Rattle.hv_cparse.specs.working.Seen.{seen, role_in}
 use Rattle.hv_cparse.proofs.Shadows.{reduce_seen}
 use Rattle.hv_cparse.proofs.DeclaratorsSeen.{step_seen}
 

@@ -1,7 +1,6 @@
 -- Declarators and specifiers with braces: a step of the pure machine is seen in the control as its
 -- step.
-use Rattle.std.specs.Prelude.{nat_le}
-use Rattle.std.proofs.Common.{◌≡◌, ℕ, zero, suc, Bool, true, false, cond, List, [], ◌∷◌, Option, Some, None, refl, ap, ◌∙◌}
+use Rattle.std.proofs.Common.{◌≡◌, ℕ, suc, Bool, true, false, cond, List, ◌∷◌, None, refl, ap, ◌∙◌}
 use Rattle.hv_base.specs.declared.place.Place.{Place}
 use Rattle.hv_base.specs.declared.keyword.Keyword.{Keyword}
 use Rattle.hv_base.specs.declared.keyword.Keyword.TheVariants as keywords
@@ -13,11 +12,10 @@ use Rattle.hv_ctree.specs.declared.tree.words.TypeQualifier.TheVariants.{Const, 
 use Rattle.hv_ctree.specs.tree.Expressions.{Specifiers, TypeSpecifier, of_type, Declarator, MayDeclarator, no_declarator, some_declarator, Core, Suffixes, Pointers, no_pointers, then_pointer, Qualifiers, no_qualifiers, no_parameters, no_declarators, nothing, no_suffixes, declarator, then_specifier, compound, mentioned, defined, enumeration, listed_before, then_member, then_enumerator, plain as single}
 use Rattle.hv_ctree.specs.tree.Statements.{no_init_declarators}
 use Rattle.hv_grammar.specs.Symbols.{Symbol, keyword, name, sign}
-use Rattle.hv_grammar.specs.Expressions.{stars, braced, has_type}
+use Rattle.hv_grammar.specs.Expressions.{stars, has_type}
 use Rattle.hv_grammar.specs.machine.Frames as plain
 use Rattle.hv_grammar.specs.machine.Steps as plain_steps
 use Rattle.hv_cparse.specs.Control.{owner_of, mode_of, count, frames_of, frames_at, at_of, class_of, has_enumerators}
-use Rattle.hv_cparse.specs.declared.frame.Frame.TheVariants.{Owned, OwnedMembers}
 use Rattle.hv_cparse.specs.working.Tables.{depth}
 use Rattle.hv_cparse.specs.working.Steps as steps
 use Rattle.hv_cparse.specs.working.Seen.{seen}

@@ -1,10 +1,10 @@
 -- How many are open, in a frame and around it.
-use Rattle.std.proofs.Common.{◌≡◌, ℕ, zero, suc, ◌+◌, ◌-◌, ◌<◌, Bool, true, false, cond, List, [], ◌∷◌, length, get_or, take, reverse, arith, refl, sym, ap, ◌∙◌}
+use Rattle.std.proofs.Common.{◌≡◌, ℕ, zero, suc, ◌+◌, ◌-◌, ◌<◌, true, false, cond, List, [], ◌∷◌, length, get_or, take, reverse, arith, refl, sym, ap, ◌∙◌}
 use Rattle.std.proofs.Math.Seq.{take-suc}
 use Rattle.std.proofs.lemmas.List.{take_all, length-reverse, reverse-append, reverse-reverse}
 use Rattle.hv_grammar.specs.Expressions.{braced}
 use Rattle.hv_cparse.specs.declared.frame.Frame.{Frame}
-use Rattle.hv_cparse.specs.declared.frame.Frame.TheVariants.{Listing, Binary, Group, Length, Parameters}
+use Rattle.hv_cparse.specs.declared.frame.Frame.TheVariants.{Listing, Group, Length, Parameters}
 use Rattle.hv_cparse.specs.working.Tables.{many, weigh, around, depth, is_type, types, types_around}
 
 pub many_sum : (n d : ℕ) → d + n ≡ many n d

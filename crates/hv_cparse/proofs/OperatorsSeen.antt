@@ -1,11 +1,11 @@
 -- Tokens after an operand: a step of the pure machine is seen in the control as its step.
 use Rattle.std.specs.Prelude.{nat_le}
-use Rattle.std.proofs.Common.{◌≡◌, ℕ, suc, Bool, true, false, cond, List, [], ◌∷◌, Option, Some, None, refl, ap, ◌∙◌}
+use Rattle.std.proofs.Common.{◌≡◌, ℕ, Bool, false, List, [], ◌∷◌, Option, Some, None, refl, ap, ◌∙◌}
 use Rattle.hv_base.specs.declared.place.Place.{Place}
 use Rattle.hv_base.specs.declared.punct.Punct.{Punct}
 use Rattle.hv_base.specs.declared.punct.Punct.TheVariants as puncts
 use Rattle.hv_ctree.specs.declared.tree.words.Selector.{Selector}
-use Rattle.hv_ctree.specs.tree.Expressions.{Expr, Specifier, Specifiers, TypeSpecifier, MayTag, Enumerators, of_type, enumeration, listed, then_enumerator, valued, place_of}
+use Rattle.hv_ctree.specs.tree.Expressions.{Expr, TypeSpecifier, MayTag, Enumerators, of_type, enumeration, listed, then_enumerator, valued, place_of}
 use Rattle.hv_ctree.specs.tree.Statements.{value}
 use Rattle.hv_grammar.specs.Symbols.{Symbol, name, sign, right_paren, colon, semicolon}
 use Rattle.hv_grammar.specs.Expressions.{braced}

@@ -1,5 +1,5 @@
 -- The terminals and expressions of an element's own production are seen in the control.
-use Rattle.std.proofs.Common.{◌≡◌, Bool, true, false, cond, List, [], ◌∷◌, Option, Some, None, refl, ap, ◌∙◌}
+use Rattle.std.proofs.Common.{◌≡◌, [], Option, Some, refl, ap, ◌∙◌}
 use Rattle.hv_base.specs.declared.keyword.Keyword.{Keyword}
 use Rattle.hv_base.specs.declared.keyword.Keyword.TheVariants as keywords
 use Rattle.hv_base.specs.declared.punct.Punct.{Punct}
@@ -9,7 +9,6 @@ use Rattle.hv_grammar.specs.Symbols.{Symbol, keyword, sign, hole}
 use Rattle.hv_grammar.specs.Elements as elements
 use Rattle.hv_grammar.specs.machine.Parts as plain_parts
 use Rattle.hv_grammar.specs.machine.Steps as plain_steps
-use Rattle.hv_cparse.specs.declared.class.Class.{Class}
 use Rattle.hv_cparse.specs.declared.part.Fixed.{Fixed}
 use Rattle.hv_cparse.specs.Control.{clause_of, part_of, fixed_of, class_of}
 use Rattle.hv_cparse.specs.working.Parts as parts

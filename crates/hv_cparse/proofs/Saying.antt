@@ -1,5 +1,5 @@
 -- What an answer to tokens says of them, by the law on the machine's answers.
-use Rattle.std.proofs.Common.{◌≡◌, List, Result, Ok, Err, IfOk, IfErr, subst}
+use Rattle.std.proofs.Common.{List, Result, Ok, Err, IfOk, IfErr, subst}
 use Rattle.hv_ctree.specs.tree.Expressions.{Expr}
 use Rattle.hv_grammar.specs.Symbols.{Token}
 use Rattle.hv_grammar.specs.Refusal.{Limits}

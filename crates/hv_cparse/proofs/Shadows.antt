@@ -1,5 +1,4 @@
 -- The tables of the control are those of the pure machine.
-use Rattle.std.specs.Prelude.{nat_le}
 use Rattle.std.proofs.Common.{◌≡◌, ℕ, suc, Bool, true, false, cond, List, [], ◌∷◌, refl, ap, ◌∙◌}
 use Rattle.hv_ctree.specs.tree.Expressions.{Expr, Pointers, no_pointers, then_pointer}
 use Rattle.hv_grammar.specs.Expressions.{stars}
@@ -8,7 +7,7 @@ use Rattle.hv_grammar.specs.machine.Frames as plain
 use Rattle.hv_grammar.specs.machine.Steps as plain_steps
 use Rattle.hv_cparse.specs.Control.{count, part_of, frame_of, frames_of}
 use Rattle.hv_cparse.specs.working.Parts.{wanted}
-use Rattle.hv_cparse.specs.working.Tables.{many, hole, hole_of, made, weigh, depth, types, role_of, ends, reduce, reduced}
+use Rattle.hv_cparse.specs.working.Tables.{many, hole, hole_of, made, weigh, depth, types, role_of, ends, reduce}
 use Rattle.hv_cparse.specs.working.Seen.{role_in, reduced_in}
 
 pub both : {X Y : Type 0} (h : X → Y) (b c : Bool) (x y : X) (u v : Y) → b ≡ c → h x ≡ u → h y ≡ v

@@ -1,7 +1,7 @@
 -- Specifiers, and tokens where an operand is wanted: a step of the pure machine is seen in the
 -- control as its step.
 use Rattle.std.specs.Prelude.{nat_le}
-use Rattle.std.proofs.Common.{◌≡◌, ℕ, suc, Bool, true, false, cond, List, [], ◌∷◌, Option, Some, None, refl, ap, ◌∙◌}
+use Rattle.std.proofs.Common.{◌≡◌, ℕ, Bool, true, false, cond, List, ◌∷◌, Option, Some, None, refl, ap, ◌∙◌}
 use Rattle.hv_base.specs.declared.place.Place.{Place}
 use Rattle.hv_base.specs.declared.keyword.Keyword.{Keyword}
 use Rattle.hv_base.specs.declared.keyword.Keyword.TheVariants as keywords
@@ -20,11 +20,11 @@ use Rattle.hv_grammar.specs.machine.Steps.{Taken}
 use Rattle.hv_cparse.specs.Control.{owner_of, frame_of, frames_of, class_of}
 use Rattle.hv_cparse.specs.declared.class.Specifier.TheVariants.{Word}
 use Rattle.hv_cparse.specs.declared.frame.At.TheVariants.{Want}
-use Rattle.hv_cparse.specs.working.Tables.{hole_of, depth}
+use Rattle.hv_cparse.specs.working.Tables.{hole_of}
 use Rattle.hv_cparse.specs.working.Steps as steps
 use Rattle.hv_cparse.specs.working.Steps.{Moved}
 use Rattle.hv_cparse.specs.working.Seen.{seen}
-use Rattle.hv_cparse.proofs.Shadows.{both, depth_seen, within_seen, weigh_seen, hole_of_seen}
+use Rattle.hv_cparse.proofs.Shadows.{both, depth_seen, within_seen, hole_of_seen}
 
 storage_seen : (o : plain.Owner) (p : Place) (xs : Specifiers) (stack : List plain.Frame)
     (q : Place) (c : StorageClass) (other : Option Taken)

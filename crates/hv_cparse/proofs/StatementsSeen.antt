@@ -1,12 +1,10 @@
 -- An element's own production: a step of the pure machine is seen in the control as its step.
-use Rattle.std.proofs.Common.{◌≡◌, Bool, true, false, cond, List, [], ◌∷◌, Option, Some, None, refl, ap, ◌∙◌}
+use Rattle.std.proofs.Common.{◌≡◌, List, [], ◌∷◌, None, refl, ap, ◌∙◌}
 use Rattle.hv_base.specs.declared.keyword.Keyword.{Keyword}
 use Rattle.hv_base.specs.declared.keyword.Keyword.TheVariants as keywords
 use Rattle.hv_base.specs.declared.place.Place.{Place}
-use Rattle.hv_base.specs.declared.punct.Punct.{Punct}
 use Rattle.hv_base.specs.declared.punct.Punct.TheVariants as puncts
-use Rattle.hv_ctree.specs.tree.Expressions.{Expr}
-use Rattle.hv_ctree.specs.tree.Statements.{Skeleton, hollow_if_else}
+use Rattle.hv_ctree.specs.tree.Statements.{hollow_if_else}
 use Rattle.hv_grammar.specs.Symbols.{Symbol, keyword, sign}
 use Rattle.hv_grammar.specs.Elements as elements
 use Rattle.hv_grammar.specs.machine.Parts as plain_parts

@@ -17,7 +17,7 @@ fn refusal(alloc: Global, standing: Standing, text: &str) -> Result<Option<usize
         if machine.take(Limits::of_source(), class)?.is_some() {
             return Ok(Some(at));
         }
-        at += 1;
+        at = at.saturating_add(1);
     }
     Ok(if machine.finish_element() {
         None

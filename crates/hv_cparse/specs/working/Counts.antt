@@ -1,5 +1,5 @@
 -- The operators that the control counts, and the limits.
-use Rattle.std.specs.Prelude.{◌≡◌, ℕ, suc, Bool, true, false, cond, nat_le, List, Option, Some, None}
+use Rattle.std.specs.Prelude.{◌≡◌, ℕ, suc, Bool, false, cond, nat_le, List, Option, Some, None}
 use Rattle.hv_base.specs.declared.why.Why.{Why}
 use Rattle.hv_base.specs.declared.why.Why.TheVariants.{Syntax, TooDeep}
 use Rattle.hv_grammar.specs.Refusal.{Limits}

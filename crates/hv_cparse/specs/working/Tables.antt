@@ -2,7 +2,7 @@
 use Rattle.std.specs.Prelude.{ℕ, zero, suc, ◌-◌, Bool, true, false, cond, nat_le, List, [], ◌∷◌, Option, Some, None}
 use Rattle.hv_grammar.specs.Expressions.{braced}
 use Rattle.hv_cparse.specs.declared.frame.Frame.{Frame}
-use Rattle.hv_cparse.specs.declared.frame.Frame.TheVariants.{Parenthesis, AfterSizeof, Subscript, Callee, Calling, Prefix, Unary, Sizeof, SizeofType, CastType, Cast, Binary, Then, Else, Assign, Comma, Specified, Body, Listing, Valued, Owned, OwnedMembers, Group, Length, Parameters, Braces, Index, Designated, Declares, Declaring, Initialized, Statement, Terminal}
+use Rattle.hv_cparse.specs.declared.frame.Frame.TheVariants.{Parenthesis, AfterSizeof, Subscript, Callee, Calling, Prefix, Unary, Sizeof, SizeofType, CastType, Cast, Binary, Then, Else, Assign, Comma, Specified, Listing, Valued, Owned, OwnedMembers, Group, Length, Parameters, Index, Designated, Declares, Declaring, Initialized, Statement, Terminal}
 use Rattle.hv_cparse.specs.declared.frame.Role.{Role}
 use Rattle.hv_cparse.specs.declared.frame.Role.TheVariants.{Outside, Inside}
 use Rattle.hv_cparse.specs.working.Parts.{wanted}
