@@ -59,12 +59,12 @@ abbrev pub IsHeld : (List ℕ → Option (List ℕ)) → Option (List ℕ) → L
 IsHeld held None bytes = bytes ≡ []
 IsHeld held (Some name) bytes = held name ≡ Some bytes
 
--- The headline. The files and the output tell what they hold. Then, where the words are `encode`
--- with these sources, the model file says a model, without one that of no options; the main file is
--- a small source; and the bytes written, after what the output held, are a typed program which,
+-- The headline, for the command `encode` with these sources. The files and the output tell what
+-- they hold. Then the model file says a model, and no model file that of no options; the main file
+-- is a small source; and the bytes written, after what the output held, are a typed program which,
 -- started with a valid configuration, runs on every input and for every number of steps as the
--- variant of that configuration, wherever the variant meets no undefined behaviour: the same output,
--- the same input taken, the same end.
+-- variant of that configuration, wherever the variant meets no undefined behaviour: the same
+-- output, the same input taken, the same end.
 pub record Headline (sources : Sources) (held : List ℕ → Option (List ℕ))
     (before now : Option (List ℕ)) : Type 0 where
   pub model_file : List ℕ

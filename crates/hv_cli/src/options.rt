@@ -15,8 +15,8 @@ use hv_model::{ConfigFault, Model, ModelRefusal, is_valid, read_config, read_mod
 use hv_outside::Files;
 use std::alloc::Global;
 
-/// The answer that is due to the command `options` with the model file of this name and this text of
-/// a configuration.
+/// The answer that is due to the command `options` with the model file of this name and this text
+/// of a configuration.
 pub fn options<F: Files>(
     alloc: Global,
     files: &mut F,

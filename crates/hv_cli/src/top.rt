@@ -27,8 +27,8 @@ use std::alloc::Global;
 ///
 /// `encode` reads a model file, if one is named, and a source from `files`, and writes the
 /// metaproduct to `out`. `options` reads a model file, if one is named, and writes to `out` a
-/// definition of each option variable, for a given configuration. Every other end has its message on
-/// `err`. `input` is there for the commands that run programs.
+/// definition of each option variable, for a given configuration. Every other end has its message
+/// on `err`. `input` is there for the commands that run programs.
 pub fn hercules<F: Files, I: Source, O: Sink, E: Sink>(
     alloc: Global,
     words: &[String],
