@@ -3,8 +3,8 @@ use Rattle.std.proofs.Common.{◌≡◌, ◌++◌, List, ℕ, [], ◌∷◌, ◌
 use Rattle.std.specs.Borrow.{Bor}
 use Rattle.std.specs.List.{flat_map}
 use Rattle.std.specs.Prelude.{Result, Ok, Err, IfOk}
-use Rattle.hv_encode.specs.Answer.{message_of}
-use Rattle.hv_encode.specs.declared.cli.answer.Answer.TheVariants.{LeftOut}
+use Rattle.hv_cli.specs.Answer.{message_of}
+use Rattle.hv_cli.specs.declared.answer.Answer.TheVariants.{LeftOut}
 
 five : (a b c d e : List ℕ) → a ++ (b ++ (c ++ (d ++ e))) ≡ a ++ b ++ c ++ d ++ e
 five a b c d e = simp append_assoc

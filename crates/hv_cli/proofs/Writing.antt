@@ -2,10 +2,10 @@
 use Rattle.std.proofs.Common.{◌≡◌, ℕ, List, Option, Result, Ok, Err, length, OnOk, OnErr, inl, inr, refl}
 use Rattle.std.proofs.Math.Seq.{take-length}
 use Rattle.hv_outside.specs.Sink.{Adds, AddsPrefix}
-use Rattle.hv_encode.specs.declared.cli.answer.Answer.{Answer}
-use Rattle.hv_encode.specs.Answer.{output_of, message_of}
-use Rattle.hv_encode.specs.Given.{Writes, AddsOutput, AddsMessagePrefix, MessageFailed}
-use Rattle.hv_encode.specs.working.Given.{IsGiven}
+use Rattle.hv_cli.specs.declared.answer.Answer.{Answer}
+use Rattle.hv_cli.specs.Answer.{output_of, message_of}
+use Rattle.hv_cli.specs.Given.{Writes, AddsOutput, AddsMessagePrefix, MessageFailed}
+use Rattle.hv_cli.specs.working.Given.{IsGiven}
 
 pub AddsPrefix-whole : (before now : Option (List ℕ)) (bytes : List ℕ) → Adds before now bytes
     → AddsPrefix before now bytes

@@ -4,24 +4,28 @@ use Rattle.hv_base.specs.declared.status.Status.{Status}
 use Rattle.hv_base.specs.declared.status.Status.TheVariants.{Done, Refused, Unread}
 use Rattle.hv_base.specs.declared.status.Status.TheVariants as status
 use Rattle.hv_model.specs.ModelKind.{kind_number, kind_name}
-use Rattle.hv_encode.specs.declared.cli.answer.Answer.{Answer}
-use Rattle.hv_encode.specs.declared.cli.answer.Answer.TheVariants.{Encoded, LeftOut, BadWords, CannotRead, NoFile, TooBig, BadModel}
+use Rattle.hv_cli.specs.declared.answer.Answer.{Answer}
+use Rattle.hv_cli.specs.declared.answer.Answer.TheVariants.{Encoded, Options, LeftOut, BadWords, BadConfig, CannotRead, NoFile, TooBig, BadModel}
 
 -- with which status the program ends
 abbrev pub status_of : Answer → Status
 status_of (Encoded _) = Done
+status_of (Options _) = Done
 status_of (LeftOut _ _) = Refused
 status_of BadWords = status.BadWords
+status_of BadConfig = status.BadWords
 status_of (CannotRead _) = Unread
 status_of (NoFile _) = Unread
 status_of (TooBig _ _ _) = Unread
 status_of (BadModel _) = status.BadModel
 
--- what goes to the output: the metaproduct, and nothing else
+-- what goes to the output: what the command was to write, and nothing else
 abbrev pub output_of : Answer → List ℕ
 output_of (Encoded text) = text
+output_of (Options text) = text
 output_of (LeftOut _ _) = []
 output_of BadWords = []
+output_of BadConfig = []
 output_of (CannotRead _) = []
 output_of (NoFile _) = []
 output_of (TooBig _ _ _) = []
@@ -30,10 +34,12 @@ output_of (BadModel _) = []
 -- the message of an answer: one line, and none for success
 abbrev pub message_of : Answer → List ℕ
 message_of (Encoded _) = []
+message_of (Options _) = []
 message_of (LeftOut config file) =
     codes "hercules: fails config=" ++ config ++ codes " file=" ++ file
     ++ codes " line=1 offset=0 via=- why=14 LeftOut\n"
 message_of BadWords = codes "hercules: bad words\n"
+message_of BadConfig = codes "hercules: bad config\n"
 message_of (CannotRead name) = codes "hercules: cannot read " ++ name ++ codes "\n"
 message_of (NoFile name) = codes "hercules: no file " ++ name ++ codes "\n"
 message_of (TooBig name size total) =

@@ -10,13 +10,15 @@ use Rattle.hv_model.specs.Rule.{Features, IsValid}
 use Rattle.hv_plain.specs.Source.{SourceLine, IsSmallSource}
 use Rattle.hv_plain.specs.Program.{Program, IsProgramText}
 use Rattle.hv_plain.specs.Run.{IsVariant, run, start, no_start, undefined, variables_of}
-use Rattle.hv_encode.specs.declared.cli.answer.Answer.{Answer}
-use Rattle.hv_encode.specs.declared.cli.answer.Answer.TheVariants.{Encoded, CannotRead, NoFile, TooBig}
-use Rattle.hv_encode.specs.Answer.{output_of, message_of}
-use Rattle.hv_encode.specs.declared.cli.command.Role.{Role}
-use Rattle.hv_encode.specs.declared.cli.command.Role.TheVariants.{Model, Main}
-use Rattle.hv_encode.specs.Due.{Reads, Command, command_of, name_of, total_of, IsDue}
-use Rattle.hv_encode.specs.Given.{Writes, IsWhole, IsUnwritten, IsStarved, OutputFailed, MessageFailed}
+use Rattle.hv_words.specs.Commands.{Command, Sources, encode}
+use Rattle.hv_cli.specs.declared.answer.Answer.{Answer}
+use Rattle.hv_cli.specs.declared.answer.Answer.TheVariants.{Encoded, CannotRead, NoFile, TooBig}
+use Rattle.hv_cli.specs.declared.read.Role.{Role}
+use Rattle.hv_cli.specs.declared.read.Role.TheVariants.{Model, Main}
+use Rattle.hv_cli.specs.Answer.{output_of, message_of}
+use Rattle.hv_cli.specs.Due.{IsDue}
+use Rattle.hv_cli.specs.Files.{Reads, command_of, name_of, total_of}
+use Rattle.hv_cli.specs.Given.{Writes, IsWhole, IsUnwritten, IsStarved, OutputFailed, MessageFailed}
 
 -- the answer was due, and was given whole
 pub record Answers (words : List (List ℕ)) (reads : Reads) (w : Writes) (status : ℕ)
@@ -51,20 +53,24 @@ pub data Ends (words : List (List ℕ)) (reads : Reads) (w : Writes) (status : �
   failed : Fails words reads w status → Ends words reads w status
   starved : Starves words reads w status → Ends words reads w status
 
--- The headline. The files and the output tell what they hold. Then the words name a model file and
--- a main file; the model file says a model, and the main file is a small source; and the bytes
--- written, after what the output held, are a typed program which, started with a valid
--- configuration, runs on every input and for every number of steps as the variant of that
--- configuration, wherever the variant meets no undefined behaviour: the same output, the same input
--- taken, the same end.
-pub record Headline (words : List (List ℕ)) (held : List ℕ → Option (List ℕ))
+-- these bytes are held under the name of a file. A file that the command doesn't have counts as an
+-- empty one
+abbrev pub IsHeld : (List ℕ → Option (List ℕ)) → Option (List ℕ) → List ℕ → Type 0
+IsHeld held None bytes = bytes ≡ []
+IsHeld held (Some name) bytes = held name ≡ Some bytes
+
+-- The headline, for the command `encode` with these sources. The files and the output tell what
+-- they hold. Then the model file says a model, and no model file that of no options; the main file
+-- is a small source; and the bytes written, after what the output held, are a typed program which,
+-- started with a valid configuration, runs on every input and for every number of steps as the
+-- variant of that configuration, wherever the variant meets no undefined behaviour: the same
+-- output, the same input taken, the same end.
+pub record Headline (sources : Sources) (held : List ℕ → Option (List ℕ))
     (before now : Option (List ℕ)) : Type 0 where
-  pub command : Command
-  pub words_are : command_of words ≡ Some command
   pub model_file : List ℕ
-  pub model_held : held command.model ≡ Some model_file
+  pub model_held : IsHeld held sources.model model_file
   pub source : List ℕ
-  pub source_held : held command.main ≡ Some source
+  pub source_held : held sources.file ≡ Some source
   pub model : Features
   pub model_read : IsModelOf model_file model
   pub body : List SourceLine
@@ -81,21 +87,21 @@ pub record Headline (words : List (List ℕ)) (held : List ℕ → Option (List 
 -- the files tell that they hold these two within the limit, and no count of their faults rose
 pub record AreRead (reads : Reads) (command : Command) (model_file source : List ℕ) : Type 0 where
   pub told : IsTrue reads.before.told
-  pub model_held : reads.before.held command.model ≡ Some model_file
+  pub model_held : IsHeld reads.before.held (name_of command Model) model_file
   pub model_small : length model_file ≤ MOST_FILE_BYTES
-  pub source_held : reads.before.held command.main ≡ Some source
+  pub source_held : IsHeld reads.before.held (name_of command Main) source
   pub source_small : length source ≤ MOST_FILE_BYTES
   pub no_read_fault : Rose reads.before.faults reads.now.faults → ⊥
 
 -- the file of this name is there and within the limit
-abbrev pub IsUsable : Reads → List ℕ → Type 0
+abbrev pub IsUsable : Reads → Option (List ℕ) → Type 0
 IsUsable reads name =
-    (bytes : List ℕ) × (reads.before.held name ≡ Some bytes) × (length bytes ≤ MOST_FILE_BYTES)
+    (bytes : List ℕ) × IsHeld reads.before.held name bytes × (length bytes ≤ MOST_FILE_BYTES)
 
 -- every file that is read before the one in this role is usable: the model file comes first
 abbrev pub AreUsableBefore : Reads → Command → Role → Type 0
 AreUsableBefore reads command Model = Unit {0}
-AreUsableBefore reads command Main = IsUsable reads command.model
+AreUsableBefore reads command Main = IsUsable reads (name_of command Model)
 
 -- the answer on a file that isn't there, or is beyond the limit
 abbrev pub Blames : Reads → List ℕ → Role → Answer → Type 0
@@ -109,17 +115,20 @@ Blames reads name role answer =
 pub record IsFirstUnusable (reads : Reads) (command : Command) (role : Role)
     (answer : Answer) : Type 0 where
   pub told : IsTrue reads.before.told
+  pub name : List ℕ
+  pub asked : name_of command role ≡ Some name
   pub usable_before : AreUsableBefore reads command role
-  pub blamed : Blames reads (name_of command role) role answer
+  pub blamed : Blames reads name role answer
   pub no_read_fault : Rose reads.before.faults reads.now.faults → ⊥
 
--- what completeness asks of the words, the files and the source; and that no count of faults rose
+-- what completeness asks of the words, the files and the source of `encode`; and that no count of
+-- faults rose
 pub record IsGood (words : List (List ℕ)) (reads : Reads) (w : Writes) : Type 0 where
-  pub command : Command
-  pub words_are : command_of words ≡ Some command
+  pub sources : Sources
+  pub words_are : command_of words ≡ Some (encode sources)
   pub model_file : List ℕ
   pub source : List ℕ
-  pub read : AreRead reads command model_file source
+  pub read : AreRead reads (encode sources) model_file source
   pub model : Features
   pub model_read : IsModelOf model_file model
   pub body : List SourceLine

@@ -4,8 +4,8 @@ use Rattle.hv_outside.specs.Count.{Rose}
 use Rattle.hv_outside.specs.Sink.{Adds, AddsPrefix, SinkState}
 use Rattle.hv_base.specs.Status.{code_of}
 use Rattle.hv_base.specs.declared.status.Status.TheVariants.{Unwritten, Memory}
-use Rattle.hv_encode.specs.declared.cli.answer.Answer.{Answer}
-use Rattle.hv_encode.specs.Answer.{status_of, output_of, message_of, cannot_write, want_of_memory}
+use Rattle.hv_cli.specs.declared.answer.Answer.{Answer}
+use Rattle.hv_cli.specs.Answer.{status_of, output_of, message_of, cannot_write, want_of_memory}
 
 -- the output and the messages, before a call and after it
 pub record Writes : Type 0 where

@@ -1,7 +1,7 @@
 //! What the program answers.
 ghost use Rattle.std.specs.Prelude.{◌≡◌, ◌++◌, IfOk, codes};
 ghost use Rattle.std.specs.List.{flat_map};
-ghost use Rattle.hv_encode.specs.Answer.{message_of, output_of, status_of};
+ghost use Rattle.hv_cli.specs.Answer.{message_of, output_of, status_of};
 
 use hv_base::{Memory, Status, Text};
 use hv_model::ModelFault;
@@ -13,11 +13,15 @@ use std::alloc::Global;
 pub enum Answer {
     /// Status 0: the metaproduct.
     Encoded(Text),
+    /// Status 0: the definitions of the option variables.
+    Options(Text),
     /// Status 1: the source, in the file of this name, isn't a small one. The configuration is the
     /// text of the least valid one.
     LeftOut { config: Text, file: Text },
     /// Status 2: the arguments are no command.
     BadWords,
+    /// Status 2: the text of the configuration means no valid one.
+    BadConfig,
     /// Status 3: reading the file of this name failed.
     CannotRead { name: Text },
     /// Status 3: there is no file of this name.
@@ -35,9 +39,9 @@ impl Answer {
         ensures { result ≡ status_of self.now }
     {
         match self {
-            Answer::Encoded(_) => Status::Done,
+            Answer::Encoded(_) | Answer::Options(_) => Status::Done,
             Answer::LeftOut { .. } => Status::Refused,
-            Answer::BadWords => Status::BadWords,
+            Answer::BadWords | Answer::BadConfig => Status::BadWords,
             Answer::CannotRead { .. } | Answer::NoFile { .. } | Answer::TooBig { .. } => {
                 Status::Unread
             }
@@ -50,7 +54,7 @@ impl Answer {
         ensures { result.now ≡ output_of self.now }
     {
         match self {
-            Answer::Encoded(text) => text.as_slice(),
+            Answer::Encoded(text) | Answer::Options(text) => text.as_slice(),
             _ => &[],
         }
     }
@@ -60,9 +64,10 @@ impl Answer {
         ensures { IfOk result (λ text. text ≡ message_of self.now) }
     {
         match self {
-            Answer::Encoded(_) => Ok(Text::new(alloc)),
+            Answer::Encoded(_) | Answer::Options(_) => Ok(Text::new(alloc)),
             Answer::LeftOut { config, file } => left_out_message(alloc, config, file),
             Answer::BadWords => joined(alloc, &[b"hercules: bad words\n".as_slice()]),
+            Answer::BadConfig => joined(alloc, &[b"hercules: bad config\n".as_slice()]),
             Answer::CannotRead { name } => file_message(alloc, b"hercules: cannot read ", name),
             Answer::NoFile { name } => file_message(alloc, b"hercules: no file ", name),
             Answer::TooBig { name, size, total } => too_big_message(alloc, name, *size, *total),

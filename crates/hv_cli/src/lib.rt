@@ -1,6 +1,11 @@
-//! The command line: arguments, files, statuses and messages.
+//! The command line: what its words ask for, the files that it reads, and how a call ends.
+#![tactic(auto)]
+
 mod answer;
 mod command;
+mod encode;
+mod options;
+mod read;
 mod top;
 mod write;
 

@@ -1,5 +1,5 @@
 //! The top call.
-ghost use Rattle.std.specs.Prelude.{◌≡◌, ◌≤◌, List, ℕ, Some, None, IsTrue, map};
+ghost use Rattle.std.specs.Prelude.{◌≡◌, ◌≤◌, Bool, List, ℕ, Option, Some, None, IsTrue, map};
 ghost use Rattle.std.specs.String.{string_bytes};
 ghost use Rattle.hv_base.specs.Status.{code_of};
 ghost use Rattle.hv_model.specs.declared.faults.ModelFault.{ModelFault};
@@ -9,23 +9,26 @@ ghost use Rattle.hv_model.specs.Model.{IsModelOf};
 ghost use Rattle.hv_model.specs.Rule.{Features};
 ghost use Rattle.hv_outside.specs.Files.{Keeps};
 ghost use Rattle.hv_plain.specs.Source.{SourceLine, IsSmallSource};
-ghost use Rattle.hv_encode.specs.declared.cli.answer.Answer.{Answer};
-ghost use Rattle.hv_encode.specs.declared.cli.command.Role.{Role};
-ghost use Rattle.hv_encode.specs.Due.{Command, IsUntouched, command_of, reads};
-ghost use Rattle.hv_encode.specs.Given.{writes};
-ghost use Rattle.hv_encode.specs.Ends.{Answers, AnswersOrFails, AreRead, Ends, Fails, Headline, IsFirstUnusable, IsGood, IsOrFails, Starves, Succeeds, Unread};
+ghost use Rattle.hv_words.specs.Commands.{Command, Sources, encode, options};
+ghost use Rattle.hv_cli.specs.declared.answer.Answer.{Answer};
+ghost use Rattle.hv_cli.specs.declared.read.Role.{Role};
+ghost use Rattle.hv_cli.specs.Definitions.{IsConfig, definitions_of};
+ghost use Rattle.hv_cli.specs.Files.{HasNoFile, IsUntouched, command_of, config_text, reads};
+ghost use Rattle.hv_cli.specs.Given.{writes};
+ghost use Rattle.hv_cli.specs.Ends.{Answers, AnswersOrFails, AreRead, Ends, Fails, Headline, IsFirstUnusable, IsGood, IsOrFails, Starves, Succeeds, Unread};
 
-use crate::cli::command::answer_to;
-use crate::cli::write::{report_out_of_memory, write_answer};
+use crate::command::answer_to;
+use crate::write::{report_out_of_memory, write_answer};
 use hv_base::{Memory, Status};
 use hv_outside::{Files, Sink, Source};
 use std::alloc::Global;
 
 /// The program: `words` are its arguments, after its name, and the answer is its status.
 ///
-/// `encode MODEL FILE` reads a model file and a source from `files`, and writes the metaproduct to
-/// `out`. Every other end has its message on `err`. `input` is there for the commands that run
-/// programs.
+/// `encode` reads a model file, if one is named, and a source from `files`, and writes the
+/// metaproduct to `out`. `options` reads a model file, if one is named, and writes to `out` a
+/// definition of each option variable, for a given configuration. Every other end has its message
+/// on `err`. `input` is there for the commands that run programs.
 pub fn hercules<F: Files, I: Source, O: Sink, E: Sink>(
     alloc: Global,
     words: &[String],
@@ -34,26 +37,44 @@ pub fn hercules<F: Files, I: Source, O: Sink, E: Sink>(
     out: &mut O,
     err: &mut E,
 ) -> u8
-    // The bytes written are one program that runs as every variant does.
-    ensures headline { result ≡ code_of Status.Done → IsTrue (F.state files.old).told
-        → Headline (map string_bytes words.now) (F.state files.old).held
-        (O.state out.old).written (O.state out.new).written }
+    // The bytes that `encode` writes are one program that runs as every variant does.
+    ensures headline { (sources : Sources)
+        → command_of (map string_bytes words.now) ≡ Some (encode sources)
+        → result ≡ code_of Status.Done → IsTrue (F.state files.old).told
+        → Headline sources (F.state files.old).held (O.state out.old).written
+        (O.state out.new).written }
 
     // Each status has its cause, and what `out` and `err` got.
-    ensures encoded { result ≡ code_of Status.Done
+    ensures encoded { (sources : Sources)
+        → command_of (map string_bytes words.now) ≡ Some (encode sources)
+        → result ≡ code_of Status.Done
         → (text : List ℕ) × Answers (map string_bytes words.now)
         (reads (F.state files.old) (F.state files.new))
         (writes (O.state out.old) (O.state out.new) (E.state err.old) (E.state err.new))
         result (Answer.Encoded text) }
+    ensures options { (model : Option (List ℕ)) (config : List ℕ)
+        → command_of (map string_bytes words.now) ≡ Some (options model config)
+        → result ≡ code_of Status.Done
+        → (text : List ℕ) × Answers (map string_bytes words.now)
+        (reads (F.state files.old) (F.state files.new))
+        (writes (O.state out.old) (O.state out.new) (E.state err.old) (E.state err.new))
+        result (Answer.Options text) }
     ensures left_out { result ≡ code_of Status.Refused → (config : List ℕ) × (file : List ℕ)
         × Answers (map string_bytes words.now)
         (reads (F.state files.old) (F.state files.new))
         (writes (O.state out.old) (O.state out.new) (E.state err.old) (E.state err.new))
         result (Answer.LeftOut config file) }
-    ensures bad_words { result ≡ code_of Status.BadWords → Answers (map string_bytes words.now)
+    ensures bad_words { command_of (map string_bytes words.now) ≡ None
+        → result ≡ code_of Status.BadWords → Answers (map string_bytes words.now)
         (reads (F.state files.old) (F.state files.new))
         (writes (O.state out.old) (O.state out.new) (E.state err.old) (E.state err.new))
         result Answer.BadWords }
+    ensures bad_config { (command : Command)
+        → command_of (map string_bytes words.now) ≡ Some command
+        → result ≡ code_of Status.BadWords → Answers (map string_bytes words.now)
+        (reads (F.state files.old) (F.state files.new))
+        (writes (O.state out.old) (O.state out.new) (E.state err.old) (E.state err.new))
+        result Answer.BadConfig }
     ensures unread { result ≡ code_of Status.Unread → Unread (map string_bytes words.now)
         (reads (F.state files.old) (F.state files.new))
         (writes (O.state out.old) (O.state out.new) (E.state err.old) (E.state err.new))
@@ -76,11 +97,14 @@ pub fn hercules<F: Files, I: Source, O: Sink, E: Sink>(
         (writes (O.state out.old) (O.state out.new) (E.state err.old) (E.state err.new))
         result }
 
-    // Refused words ask for no file; nothing reads the input. The files hold and tell what they
-    // did, and no count falls, so that a further call can follow.
+    // Refused words and a command without files ask for no file; nothing reads the input. The files
+    // hold and tell what they did, and no count falls, so that a further call can follow.
     ensures refused_words { command_of (map string_bytes words.now) ≡ None
         → IsOrFails Status.BadWords result }
     ensures untouched { command_of (map string_bytes words.now) ≡ None
+        → IsUntouched (reads (F.state files.old) (F.state files.new)) }
+    ensures no_file { (command : Command)
+        → command_of (map string_bytes words.now) ≡ Some command → HasNoFile command
         → IsUntouched (reads (F.state files.old) (F.state files.new)) }
     ensures input { input.new ≡ input.old }
     ensures keeps { Keeps (F.state files.old) (F.state files.new) }
@@ -100,9 +124,20 @@ pub fn hercules<F: Files, I: Source, O: Sink, E: Sink>(
         → command_of (map string_bytes words.now) ≡ Some command
         → AreRead (reads (F.state files.old) (F.state files.new)) command model_file source
         → Says model_file (fault line kind) → IsOrFails Status.BadModel result }
-    ensures left_out_where { (command : Command) (model_file source : List ℕ) (model : Features)
+    ensures bad_config_where { (command : Command) (text model_file source : List ℕ)
+        (model : Features)
         → command_of (map string_bytes words.now) ≡ Some command
+        → config_text command ≡ Some text
         → AreRead (reads (F.state files.old) (F.state files.new)) command model_file source
+        → IsModelOf model_file model
+        → ((values : List Bool) → ¬ (IsConfig model text values))
+        → AnswersOrFails (map string_bytes words.now)
+        (reads (F.state files.old) (F.state files.new))
+        (writes (O.state out.old) (O.state out.new) (E.state err.old) (E.state err.new))
+        result Answer.BadConfig }
+    ensures left_out_where { (sources : Sources) (model_file source : List ℕ) (model : Features)
+        → command_of (map string_bytes words.now) ≡ Some (encode sources)
+        → AreRead (reads (F.state files.old) (F.state files.new)) (encode sources) model_file source
         → IsModelOf model_file model → ((body : List SourceLine)
         → ¬ (IsSmallSource model.names source body))
         → IsOrFails Status.Refused result }
@@ -113,6 +148,16 @@ pub fn hercules<F: Files, I: Source, O: Sink, E: Sink>(
         (reads (F.state files.old) (F.state files.new))
         (writes (O.state out.old) (O.state out.new) (E.state err.old) (E.state err.new))
         result }
+    ensures complete_options { (name : Option (List ℕ)) (text model_file source : List ℕ)
+        (model : Features) (values : List Bool)
+        → command_of (map string_bytes words.now) ≡ Some (options name text)
+        → AreRead (reads (F.state files.old) (F.state files.new)) (options name text) model_file
+        source
+        → IsModelOf model_file model → IsConfig model text values
+        → AnswersOrFails (map string_bytes words.now)
+        (reads (F.state files.old) (F.state files.new))
+        (writes (O.state out.old) (O.state out.new) (E.state err.old) (E.state err.new))
+        result (Answer.Options (definitions_of model.names values)) }
 {
     let _ = input;
     match answer_to(alloc, words, files) {

@@ -3,9 +3,9 @@ ghost use Rattle.std.specs.Prelude.{◌≡◌, ◌≤◌, ◌⊎◌, [], IfOk};
 ghost use Rattle.hv_base.specs.Status.{code_of};
 ghost use Rattle.hv_outside.specs.Count.{Rose};
 ghost use Rattle.hv_outside.specs.Sink.{Adds, AddsPrefix};
-ghost use Rattle.hv_encode.specs.Answer.{cannot_write as cannot_write_message, want_of_memory};
-ghost use Rattle.hv_encode.specs.Given.{writes};
-ghost use Rattle.hv_encode.specs.working.Given.{IsGiven};
+ghost use Rattle.hv_cli.specs.Answer.{cannot_write as cannot_write_message, want_of_memory};
+ghost use Rattle.hv_cli.specs.Given.{writes};
+ghost use Rattle.hv_cli.specs.working.Given.{IsGiven};
 
 use crate::Answer;
 use hv_base::{Memory, Status};

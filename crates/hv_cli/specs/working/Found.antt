@@ -1,22 +1,24 @@
--- What the reading of one file of a command gives.
+-- What the reading of one file of a command gives, and what the bytes of its files make.
 use Rattle.std.specs.Prelude.{ℕ, ◌≡◌, Bool, List}
-use Rattle.hv_encode.specs.declared.cli.answer.Answer.{Answer}
-use Rattle.hv_encode.specs.declared.cli.answer.Answer.TheVariants.{Encoded, LeftOut, BadWords, CannotRead, NoFile, TooBig, BadModel}
-use Rattle.hv_encode.specs.declared.cli.command.Reading.{Reading}
-use Rattle.hv_encode.specs.declared.cli.command.Reading.TheVariants.{Bytes, Refused}
-use Rattle.hv_encode.specs.Due.{Reads, Command, IsFile, IsDueTo}
-use Rattle.hv_encode.specs.declared.cli.command.Role.{Role}
-use Rattle.hv_encode.specs.Due.{name_of}
 use Rattle.hv_model.specs.Config.{text_of}
 use Rattle.hv_model.specs.Lines.{Says, fault}
 use Rattle.hv_model.specs.Model.{IsModelOf}
 use Rattle.hv_model.specs.Rule.{Features, IsLeastValid}
 use Rattle.hv_plain.specs.Source.{SourceLine, IsSmallSource}
 use Rattle.hv_plain.specs.Run.{Encodes}
+use Rattle.hv_words.specs.Commands.{Command}
+use Rattle.hv_cli.specs.declared.answer.Answer.{Answer}
+use Rattle.hv_cli.specs.declared.answer.Answer.TheVariants.{Encoded, Options, LeftOut, BadWords, BadConfig, CannotRead, NoFile, TooBig, BadModel}
+use Rattle.hv_cli.specs.declared.read.Reading.{Reading}
+use Rattle.hv_cli.specs.declared.read.Reading.TheVariants.{Bytes, Refused}
+use Rattle.hv_cli.specs.declared.read.Role.{Role}
+use Rattle.hv_cli.specs.Definitions.{IsConfig, definitions_of}
+use Rattle.hv_cli.specs.Due.{IsDueTo}
+use Rattle.hv_cli.specs.Files.{Reads, IsRead, name_of}
 
 -- the bytes of the file, or the answer that is due because of it
 abbrev pub IsFound : Reads → Command → Role → Reading → Type 0
-IsFound reads command role (Bytes bytes) = IsFile reads (name_of command role) bytes
+IsFound reads command role (Bytes bytes) = IsRead reads (name_of command role) bytes
 IsFound reads command role (Refused answer) = IsDueTo reads command answer
 
 -- the configuration is the text of the least valid one, and the file is the main file
@@ -30,17 +32,35 @@ abbrev pub IsLeftOutOf : Features → List ℕ → Answer → Type 0
 IsLeftOutOf model main (LeftOut config file) = IsLeastMessage model main config file
 IsLeftOutOf model main _ = ⊥
 
--- the answer for these bytes of the two files
-abbrev pub IsMadeOf : List ℕ → List ℕ → List ℕ → Answer → Type 0
-IsMadeOf model_file source main (Encoded text) =
+-- the answer of `encode` for these bytes of the two files
+abbrev pub IsEncodedOf : List ℕ → List ℕ → List ℕ → Answer → Type 0
+IsEncodedOf model_file source main (Encoded text) =
     (model : Features) × (body : List SourceLine) × IsModelOf model_file model
     × IsSmallSource model.names source body × Encodes model source text
-IsMadeOf model_file source main (LeftOut config file) =
+IsEncodedOf model_file source main (Options text) = ⊥
+IsEncodedOf model_file source main (LeftOut config file) =
     (model : Features) × IsModelOf model_file model × IsLeastMessage model main config file
     × ((body : List SourceLine)
     → IsSmallSource model.names source body → ⊥)
-IsMadeOf model_file source main BadWords = ⊥
-IsMadeOf model_file source main (CannotRead name) = ⊥
-IsMadeOf model_file source main (NoFile name) = ⊥
-IsMadeOf model_file source main (TooBig name size total) = ⊥
-IsMadeOf model_file source main (BadModel found) = Says model_file (fault found.line found.kind)
+IsEncodedOf model_file source main BadWords = ⊥
+IsEncodedOf model_file source main BadConfig = ⊥
+IsEncodedOf model_file source main (CannotRead name) = ⊥
+IsEncodedOf model_file source main (NoFile name) = ⊥
+IsEncodedOf model_file source main (TooBig name size total) = ⊥
+IsEncodedOf model_file source main (BadModel found) = Says model_file (fault found.line found.kind)
+
+-- the answer of `options` for these bytes of the model file and this text of a configuration
+abbrev pub IsDefinedOf : List ℕ → List ℕ → Answer → Type 0
+IsDefinedOf model_file config (Encoded text) = ⊥
+IsDefinedOf model_file config (Options text) =
+    (model : Features) × (values : List Bool) × IsModelOf model_file model
+    × IsConfig model config values × (text ≡ definitions_of model.names values)
+IsDefinedOf model_file config (LeftOut least file) = ⊥
+IsDefinedOf model_file config BadWords = ⊥
+IsDefinedOf model_file config BadConfig =
+    (model : Features) × IsModelOf model_file model
+    × ((values : List Bool) → IsConfig model config values → ⊥)
+IsDefinedOf model_file config (CannotRead name) = ⊥
+IsDefinedOf model_file config (NoFile name) = ⊥
+IsDefinedOf model_file config (TooBig name size total) = ⊥
+IsDefinedOf model_file config (BadModel found) = Says model_file (fault found.line found.kind)

@@ -1,5 +1,5 @@
-use Rattle.hv_encode.proofs.Messages.{left_out_joined}
-use Rattle.hv_encode.proofs.cli.answer.left_out_message.Goals as goal
+use Rattle.hv_cli.proofs.Messages.{left_out_joined}
+use Rattle.hv_cli.proofs.answer.left_out_message.Goals as goal
 
 pub returns : goal.returns
 returns c =

@@ -1,7 +1,7 @@
 use Rattle.std.proofs.Common.{◌≡◌, Option, Some, None, IfNone}
-use Rattle.hv_encode.proofs.Finding.{left_out_made}
-use Rattle.hv_encode.proofs.LiftingLemmas.{valid_kept}
-use Rattle.hv_encode.proofs.cli.command.metaproduct.Goals as goal
+use Rattle.hv_cli.proofs.Finding.{left_out_made}
+use Rattle.hv_model.specs.Laws.{valid-kept}
+use Rattle.hv_cli.proofs.encode.metaproduct.Goals as goal
 
 at_none : {A P : Type 0} (o : Option A) → o ≡ None → IfNone o P → P
 at_none None e p = p
@@ -10,7 +10,7 @@ at_none (Some x) e p = cc
 pub left_out-requires-clause-valid : goal.left_out-requires-clause-valid
 left_out-requires-clause-valid c =
     rw (c.in_ok-text.ensures.model, c.in_ok-text.ensures.valid)
-    (valid_kept c.in-Ok.diagram.model c.in-Ok.diagram.store c.encode_small.new.diagram.store
+    (valid-kept c.in-Ok.diagram.model c.in-Ok.diagram.store c.encode_small.new.diagram.store
     c.in-Ok.diagram.valid c.in_ok-text.ensures.keeps c.in-Ok.ensures.valid)
 
 pub left_out-requires-clause-configuration : goal.left_out-requires-clause-configuration

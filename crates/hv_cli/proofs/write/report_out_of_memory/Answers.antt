@@ -1,6 +1,6 @@
-use Rattle.hv_encode.specs.Answer.{want_of_memory}
-use Rattle.hv_encode.proofs.Writing.{AddsPrefix-written}
-use Rattle.hv_encode.proofs.cli.write.report_out_of_memory.Goals as goal
+use Rattle.hv_cli.specs.Answer.{want_of_memory}
+use Rattle.hv_cli.proofs.Writing.{AddsPrefix-written}
+use Rattle.hv_cli.proofs.write.report_out_of_memory.Goals as goal
 
 pub returns-clause-prefix : goal.returns-clause-prefix
 returns-clause-prefix g c =

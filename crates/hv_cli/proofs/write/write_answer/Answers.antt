@@ -1,7 +1,7 @@
 use Rattle.std.proofs.Common.{◌∙◌}
-use Rattle.hv_encode.specs.Given.{writes}
-use Rattle.hv_encode.proofs.Writing.{IsGiven-unwritten, IsGiven-starved}
-use Rattle.hv_encode.proofs.cli.write.write_answer.Goals as goal
+use Rattle.hv_cli.specs.Given.{writes}
+use Rattle.hv_cli.proofs.Writing.{IsGiven-unwritten, IsGiven-starved}
+use Rattle.hv_cli.proofs.write.write_answer.Goals as goal
 
 pub returns-in-Err-Failed-write_all-clause-given : goal.returns-in-Err-Failed-write_all-clause-given
 returns-in-Err-Failed-write_all-clause-given g c =
