@@ -18,8 +18,8 @@ static BDD implication(int i, int j) { return bdd_apply(bdd_nithvar(i), bdd_ithv
 
 static BDD pairs(int n) {
     BDD all = bddtrue;
-    for (int i = 0; i < n; i++)
-        all = instead(all, bdd_apply(all, either(2 * i, 2 * i + 1), bddop_and));
+    for (int i = n - 1; i >= 0; i--)
+        all = instead(all, bdd_apply(either(2 * i, 2 * i + 1), all, bddop_and));
     return all;
 }
 

@@ -5,7 +5,7 @@ ghost use Rattle.hv_cond.specs.Diagram.{IsNode, Keeps};
 use hv_cond::{Cond, Store};
 use std::alloc::AllocError;
 
-/// In each of `n` pairs of neighbouring variables one is true.
+/// In each of `n` pairs of neighbouring variables one is true, joined from the last pair on.
 pub fn pairs(store: &mut Store, n: u32) -> Result<Cond, AllocError>
     requires room { 2 * n ≤ store.old.variables }
     requires small { n ≤ 1000 }
@@ -14,8 +14,9 @@ pub fn pairs(store: &mut Store, n: u32) -> Result<Cond, AllocError>
 {
     let mut all = store.truth();
     for i in 0..n {
-        let one_true = either(store, 2 * i, 2 * i + 1)?;
-        all = store.and(all, one_true)?;
+        let pair = n - 1 - i;
+        let one_true = either(store, 2 * pair, 2 * pair + 1)?;
+        all = store.and(one_true, all)?;
     }
     Ok(all)
 }

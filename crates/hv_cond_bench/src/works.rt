@@ -16,7 +16,7 @@ const REPETITIONS: u32 = 1_000_000;
 /// What is built.
 #[derive(Clone, Copy, PartialEq, Eq, Debug)]
 pub enum Work {
-    /// A conjunction of disjunctions of two variables.
+    /// A conjunction of disjunctions of two variables, joined from the last one on.
     Pairs,
     /// The placings of queens on a board of which none attacks another.
     Queens,
