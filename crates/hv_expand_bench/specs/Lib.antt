@@ -1,0 +1,2 @@
+-- Families of macros. Read Families.
+pub mod Families
