@@ -2,4 +2,5 @@
 mod Endings
 mod Starts
 mod Converting
+mod Literals
 mod Entries
