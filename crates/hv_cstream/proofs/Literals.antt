@@ -472,3 +472,21 @@ pub out_pushed : (d : Diagram) (out written : List StreamTok) (t : StreamTok)
 out_pushed d out written t nodes node e =
     subst (λ (xs : List StreamTok). All (λ (t : StreamTok). IsNode d t.cond) xs) (sym e)
     (All-push (λ (t : StreamTok). IsNode d t.cond) out t nodes node)
+
+------ items of a list that is taken apart
+
+pub node_at : (d : Diagram) (all : List Literal) (i : ℕ) (l : Literal) → AreNodes d all
+    → (i < length all) × (l ≡ get_or all i l) → IsNode d l.cond
+node_at d all i l nodes t = subst (node_of d) (sym t.1) (nodes i l t.0)
+
+pub token_at : (d : Diagram) (all : List StreamTok) (i : ℕ) (t : StreamTok)
+    → All (λ (t : StreamTok). IsNode d t.cond) all → (i < length all) × (t ≡ get_or all i t)
+    → IsNode d t.cond
+token_at d all i t nodes u = subst (λ (t : StreamTok). IsNode d t.cond) (sym u.1) (nodes i t u.0)
+
+pub nodes_more : (d : Diagram) (done : List Literal) (l : Literal) → AreNodes d done
+    → IsNode d l.cond → AreNodes d (done ++ l ∷ [])
+nodes_more d done l nodes n = All-push (node_of d) done l nodes n
+
+pub nodes_none : (d : Diagram) → AreNodes d []
+nodes_none d = no_nodes d
