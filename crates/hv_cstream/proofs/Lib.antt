@@ -3,4 +3,5 @@ mod Endings
 mod Starts
 mod Converting
 mod Literals
+mod Joinings
 mod Entries

@@ -1,4 +1,4 @@
-use Rattle.std.proofs.Common.{◌≡◌, ◌++◌, ◌∷◌, [], ◌&&◌, Bool, List, length, take, get_or, refl, sym, ◌∙◌, ap, subst}
+use Rattle.std.proofs.Common.{◌++◌, ◌∷◌, [], ◌&&◌, take, sym, ◌∙◌, ap}
 use Rattle.std.proofs.lemmas.List.{take_all, take_more}
 use Rattle.hv_cond.specs.Diagram.{holds}
 use Rattle.hv_cond.specs.Laws.{Keeps-refl, Keeps-trans}

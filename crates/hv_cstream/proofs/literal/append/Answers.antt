@@ -1,4 +1,4 @@
-use Rattle.std.proofs.Common.{◌≡◌, ◌++◌, refl, ap}
+use Rattle.std.proofs.Common.{refl, ap}
 use Rattle.hv_base.specs.declared.token.CTok.TheVariants.{Str}
 use Rattle.hv_cond.specs.Laws.{holds-falsity}
 use Rattle.hv_cstream.proofs.Literals.{appends_parts, appends_whole, nodes_kept, on_ok}
