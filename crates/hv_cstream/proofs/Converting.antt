@@ -1,6 +1,6 @@
 -- What is converted stays right when more is converted or refused.
-use Rattle.std.proofs.Common.{◌≡◌, ◌≤◌, ◌+◌, ◌++◌, ◌&&◌, ◌⊎◌, ℕ, Bool, true, false, not, cond, List, [], ◌∷◌, length, refl, sym, ◌∙◌, ap, subst, arith, inl, inr, append-nil, append_assoc}
-use Rattle.std.specs.Prelude.{Result, Ok, Err, if◌then◌else◌}
+use Rattle.std.proofs.Common.{◌≡◌, ◌+◌, ◌++◌, ◌&&◌, ◌⊎◌, ℕ, Bool, true, false, not, cond, List, [], ◌∷◌, length, refl, sym, ◌∙◌, ap, subst, arith, inl, inr, append-nil, append_assoc}
+use Rattle.std.specs.Prelude.{Result, Ok, Err}
 use Rattle.std.specs.List.{All}
 use Rattle.std.proofs.lemmas.Bool.{false≢true}
 use Rattle.std.proofs.lemmas.List.Elements.{All-push, All-weaker}
@@ -9,7 +9,7 @@ use Rattle.hv_base.specs.declared.place.Place.{Place}
 use Rattle.hv_base.specs.declared.place.Start.{Start}
 use Rattle.hv_base.specs.declared.token.CTok.{CTok}
 use Rattle.hv_base.specs.declared.why.Why.{Why}
-use Rattle.hv_cond.specs.Diagram.{AllNodes, Diagram, IsNode, Keeps, holds}
+use Rattle.hv_cond.specs.Diagram.{Diagram, IsNode, Keeps, holds}
 use Rattle.hv_cond.specs.Laws.{count_satisfied-kept}
 use Rattle.hv_cond.specs.Parts.{count_satisfied}
 use Rattle.hv_cond.specs.declared.conditions.Cond.{Cond}
@@ -25,8 +25,8 @@ use Rattle.hv_given.specs.Laws.{AreRefusals-kept, IsRefusedAt-before, IsRefusedA
 use Rattle.hv_given.specs.Refusals.{AreRefusals, CountsMore, IsRefusedAt, RefusesMore}
 use Rattle.hv_given.specs.declared.given.Given.{Given}
 use Rattle.hv_plainpp.specs.CTokens.{c_tokens, with_token}
-use Rattle.hv_plainpp.specs.Reading.{Ending, reaches, refused}
-use Rattle.hv_toks.specs.Division.{Divides, Sorts, conditions}
+use Rattle.hv_plainpp.specs.Reading.{reaches, refused}
+use Rattle.hv_toks.specs.Division.{Sorts, conditions}
 use Rattle.hv_toks.specs.Spelled.{Spelled}
 use Rattle.hv_toks.specs.declared.parted.Failing.{Failing}
 use Rattle.hv_toks.specs.declared.parted.Parted.{Parted}

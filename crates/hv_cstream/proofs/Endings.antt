@@ -1,16 +1,14 @@
 -- What preprocessing tokens become, with more after them; and what a stream is, with more at its end
 -- or over a store that has grown.
-use Rattle.std.proofs.Common.{◌≡◌, ◌++◌, ℕ, Bool, true, false, cond, List, [], ◌∷◌, refl, sym, ◌∙◌, ap, arith, append-nil, append_assoc}
+use Rattle.std.proofs.Common.{◌≡◌, ◌++◌, Bool, true, false, cond, List, [], ◌∷◌, refl, sym, ◌∙◌, ap}
 use Rattle.std.specs.Prelude.{Result, Ok, Err, map, filter, if◌then◌else◌}
 use Rattle.std.specs.List.{All}
-use Rattle.std.proofs.lemmas.List.{map-append}
-use Rattle.std.proofs.lemmas.List.Elements.{All-head, All-tail, filter-append}
+use Rattle.std.proofs.lemmas.List.Elements.{All-head, All-tail}
 use Rattle.hv_base.specs.declared.place.Place.{Place}
 use Rattle.hv_base.specs.declared.place.Start.{Start}
 use Rattle.hv_base.specs.declared.token.CTok.{CTok}
 use Rattle.hv_base.specs.declared.why.Why.{Why}
 use Rattle.hv_cond.specs.Diagram.{Diagram, IsNode, Keeps, holds}
-use Rattle.hv_cond.specs.declared.conditions.Cond.{Cond}
 use Rattle.hv_cstream.specs.Streams.{stream_in}
 use Rattle.hv_ctoks.specs.Conversion.{converted}
 use Rattle.hv_ctoks.specs.declared.reserved.ReservedNames.{ReservedNames}

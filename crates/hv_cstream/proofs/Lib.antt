@@ -2,4 +2,6 @@
 mod Endings
 mod Starts
 mod Converting
+mod Literals
+mod Joinings
 mod Entries

@@ -3,6 +3,9 @@
 #![tactic(auto)]
 
 mod conversion;
+mod joining;
+mod literal;
 mod without;
 
 pub use conversion::convert_all;
+pub use joining::join_strings;

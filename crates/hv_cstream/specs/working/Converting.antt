@@ -1,5 +1,5 @@
 -- What is converted so far.
-use Rattle.std.specs.Prelude.{ℕ, ◌≡◌, ◌&&◌, ◌++◌, not, true, Bool, List, [], ◌∷◌, All, if◌then◌else◌}
+use Rattle.std.specs.Prelude.{◌≡◌, ◌&&◌, ◌++◌, not, true, Bool, List, [], ◌∷◌, All, if◌then◌else◌}
 use Rattle.hv_base.specs.declared.place.Place.{Place}
 use Rattle.hv_base.specs.declared.place.Start.{Start}
 use Rattle.hv_base.specs.declared.why.Why.{Why}

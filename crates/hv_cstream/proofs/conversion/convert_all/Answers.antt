@@ -1,9 +1,8 @@
-use Rattle.std.proofs.Common.{◌∙◌, ap, subst, sym}
-use Rattle.hv_cond.specs.Diagram.{IsNode, Keeps}
+use Rattle.std.proofs.Common.{◌∙◌, subst, sym}
+use Rattle.hv_cond.specs.Diagram.{IsNode}
 use Rattle.hv_cond.specs.Laws.{Keeps-trans}
 use Rattle.hv_cstream.proofs.Converting.{converting_same}
 use Rattle.hv_cstream.proofs.Entries.{entries_more, sorts_if_ok}
-use Rattle.hv_given.specs.Given.{given_in, tokens_of}
 use Rattle.hv_given.specs.declared.given.Given.{Given}
 use Rattle.hv_cstream.proofs.conversion.convert_all.Goals as goal
 

@@ -1,4 +1,4 @@
-use Rattle.std.proofs.Common.{◌≡◌, ◌<◌, ◌≤◌, length, get_or, false, ◌&&◌, Bool, List, refl, sym, ◌∙◌, ap, subst}
+use Rattle.std.proofs.Common.{◌<◌, ◌≤◌, length, get_or, refl, sym, ◌∙◌, ap, subst}
 use Rattle.hv_cond.specs.Diagram.{IsNode, Keeps, holds}
 use Rattle.hv_cond.specs.Laws.{Keeps-trans, holds-falsity}
 use Rattle.hv_cstream.proofs.Entries.{entry_all, entry_given, entry_refused, mine_in, on_ok}
