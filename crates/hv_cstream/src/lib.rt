@@ -9,3 +9,6 @@ mod without;
 
 pub use conversion::convert_all;
 pub use joining::join_strings;
+
+#[cfg(test)]
+mod tests;
