@@ -271,10 +271,10 @@ module _ (d old new : Diagram) (keeps : Keeps d new) (valid given mine : Cond) (
       ≡ cond (holds new valid values) 1 0
   once_more v =
       let before : cond (holds d c.live v) 1 0 + count_satisfied d (conditions c.refusals) v
-          ≡ cond (holds d valid v) 1 0 =
+      ≡ cond (holds d valid v) 1 0 =
       sym (count_cons d c.live (conditions c.refusals) v) ∙ i.once v in
       let counted : count_satisfied new (conditions after.refusals) v
-          ≡ count_satisfied d (conditions c.refusals) v + cond (holds d mine v) 1 0 =
+      ≡ count_satisfied d (conditions c.refusals) v + cond (holds d mine v) 1 0 =
       out.counts v (none (holds d c.live v) (holds d mine v) (holds d valid v)
       (count_satisfied d (conditions c.refusals) v) (was_live v) before) in
       count_cons new after.live (conditions after.refusals) v

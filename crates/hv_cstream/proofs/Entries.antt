@@ -58,11 +58,13 @@ module _ (old store : Diagram) (given : Given) (mine valid : Cond) (tokens : Tok
   -- a token that is converted
   pub entry_given : (tok : CTok) → IsNode store mine
       → converted c.reserved item.kind item.text ≡ Ok tok
-      → after ≡ record c { stream = c.stream ++ record {
-        tok = tok;
-        cond = mine;
-        start = start_of given i;
-      } ∷ [] }
+      → after ≡ record c {
+        stream = c.stream ++ record {
+          tok = tok;
+          cond = mine;
+          start = start_of given i;
+        } ∷ [];
+      }
       → IsConverting store valid (with_more old tokens given.cond (tokens_until given (i + 1))) after
   entry_given tok node becomes is_after =
       more_parts store old valid given.cond tokens (tokens_until given i)

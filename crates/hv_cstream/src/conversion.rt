@@ -8,12 +8,11 @@ ghost use Rattle.hv_given.specs.Refusals.{AreRefusals};
 ghost use Rattle.hv_toks.specs.Division.{Sorts};
 
 use crate::without::without;
-use hv_base::{CTok, Memory, Place, Start, Why};
+use hv_base::{CTok, List, Memory, Place, Start, Why};
 use hv_cond::{Cond, Store};
 use hv_ctoks::{ReservedNames, TokenFault, convert};
 use hv_given::{Given, Refusals};
 use hv_toks::{Parted, Stream, StreamTok};
-use hv_base::List;
 use std::alloc::Global;
 
 /// What is converted so far: the stream of the live configurations, and the refusals of the others.
@@ -42,18 +41,14 @@ impl Conversion {
     }
 
     /// Adds a token that an entry gives under a condition.
-    fn give(
-        &mut self,
-        given: &Given,
-        index: usize,
-        tok: CTok,
-        cond: Cond,
-    ) -> Result<(), Memory>
-        ensures { OnOk result (self.new ≡ record self.old { stream = self.old.stream ++ record {
+    fn give(&mut self, given: &Given, index: usize, tok: CTok, cond: Cond) -> Result<(), Memory>
+        ensures { OnOk result (self.new ≡ record self.old {
+          stream = self.old.stream ++ record {
             tok = tok;
             cond = cond;
-            start = record { place = given.now.place; face = given.now.face; index = index }
-        } ∷ [] }) }
+            start = record { place = given.now.place; face = given.now.face; index = index };
+          } ∷ [];
+        }) }
     {
         let start = Start {
             place: given.place.copy(self.alloc)?,

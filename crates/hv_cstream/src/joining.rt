@@ -124,7 +124,7 @@ fn take(
 }
 
 /// The stream with adjacent string literals joined (5.1.1.2, phase 6), in the configurations of
-/// `good`. A joined literal stands after all its parts, and has one token for each value that it has
+/// `good`. A joined literal stands after all its parts, and has a token for each value that it has
 /// under some configurations. Beyond 65,536 values that are open at once: out of memory.
 pub fn join_strings(
     alloc: Global,

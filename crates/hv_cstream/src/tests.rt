@@ -63,12 +63,44 @@ fn entries(alloc: Global, store: &mut Store) -> Result<List<Given>, Memory>
     let second = store.var(1)?;
     let third = store.var(2)?;
     let mut given = List::new(alloc);
-    add(alloc, store, &mut given, always, 0, PpKind::Identifier, b"x")?;
-    add(alloc, store, &mut given, first, 1, PpKind::StringLiteral, b"\"s\"")?;
+    add(
+        alloc,
+        store,
+        &mut given,
+        always,
+        0,
+        PpKind::Identifier,
+        b"x",
+    )?;
+    add(
+        alloc,
+        store,
+        &mut given,
+        first,
+        1,
+        PpKind::StringLiteral,
+        b"\"s\"",
+    )?;
     add(alloc, store, &mut given, second, 2, PpKind::Number, b"1x")?;
     add(alloc, store, &mut given, third, 3, PpKind::Identifier, b"y")?;
-    add(alloc, store, &mut given, always, 4, PpKind::StringLiteral, b"\"t\"")?;
-    add(alloc, store, &mut given, always, 5, PpKind::Punctuator, b";")?;
+    add(
+        alloc,
+        store,
+        &mut given,
+        always,
+        4,
+        PpKind::StringLiteral,
+        b"\"t\"",
+    )?;
+    add(
+        alloc,
+        store,
+        &mut given,
+        always,
+        5,
+        PpKind::Punctuator,
+        b";",
+    )?;
     Ok(given)
 }
 
