@@ -120,7 +120,7 @@ fn spelled(alloc: Global, store: &Store, stream: &Stream, on: &[bool]) -> Result
     Ok(text)
 }
 
-/// The tokens of a configuration, or the place where it is refused.
+/// The tokens of a configuration, or why it is refused.
 fn read(alloc: Global, on: [bool; 3]) -> Result<Text, Memory> {
     let mut store = Store::new(alloc, 3)?;
     let given = entries(alloc, &mut store)?;
@@ -136,7 +136,10 @@ fn read(alloc: Global, on: [bool; 3]) -> Result<Text, Memory> {
     if store.eval(parted.good, &on) {
         return spelled(alloc, &store, &stream, &on);
     }
-    Text::from_slice(alloc, b"refused")
+    match parted.failing.as_slice() {
+        [only] => Text::from_slice(alloc, only.why.name().as_bytes()),
+        _ => Text::from_slice(alloc, b"several causes"),
+    }
 }
 
 #[test]
@@ -145,12 +148,12 @@ fn strings_are_joined_where_nothing_is_between_them(rt: HostRuntime) -> Result<(
     for (on, wanted) in [
         ([false, false, false], "x \"t\" ; "),
         ([true, false, false], "x \"st\" ; "),
-        ([false, true, false], "refused"),
-        ([true, true, false], "refused"),
+        ([false, true, false], "BadConstant"),
+        ([true, true, false], "BadConstant"),
         ([false, false, true], "x y \"t\" ; "),
         ([true, false, true], "x \"s\" y \"t\" ; "),
-        ([false, true, true], "refused"),
-        ([true, true, true], "refused"),
+        ([false, true, true], "BadConstant"),
+        ([true, true, true], "BadConstant"),
     ] {
         let text = read(alloc, on)?;
         assert!(rt; text.is_text(wanted.as_bytes()), "{wanted}");
