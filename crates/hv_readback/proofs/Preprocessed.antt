@@ -1,13 +1,15 @@
 -- A text that is cut into ordinary tokens is preprocessed to what they become.
 use Rattle.std.proofs.Common.{◌≡◌, ℕ, zero, suc, true, not, List, [], ◌∷◌, map, refl, ap, ◌∙◌, subst, Option, Some, None}
-use Rattle.std.specs.Prelude.{◌&&◌, Ok}
+use Rattle.std.specs.Prelude.{Result, ◌&&◌, Ok}
 use Rattle.std.specs.Str.{bytes_eq}
 use Rattle.std.proofs.lemmas.Slice.Eq.{bytes_eq-Decides}
 use Rattle.hv_base.proofs.Booleans.{and_left, and_right}
 use Rattle.hv_base.proofs.Lists.{heads}
 use Rattle.hv_base.specs.declared.limits.TheConstants.{MOST_INCLUDES}
+use Rattle.hv_base.specs.declared.place.Place.{Place}
 use Rattle.hv_base.specs.declared.token.CTok.{CTok}
 use Rattle.hv_base.specs.declared.token.CTok.TheVariants.{Keyword, Name, Int, Char, Str, Punct}
+use Rattle.hv_base.specs.declared.why.Why.{Why}
 use Rattle.hv_ctoks.specs.Joining.{before_joined, joined}
 use Rattle.hv_ctoks.specs.ReadBack.{AreReadBack, becomes}
 use Rattle.hv_ctoks.specs.declared.reserved.ReservedNames.TheVariants.{Allowed}
@@ -19,7 +21,7 @@ use Rattle.hv_plainpp.specs.CTokens.{Identity, given, with_token, c_tokens, with
 use Rattle.hv_plainpp.specs.Files.{File, Entered, place_of, file_in}
 use Rattle.hv_plainpp.specs.Laws.{own_episode, AreOrdinary}
 use Rattle.hv_plainpp.specs.Preprocessing.{entered, unit, unit_of}
-use Rattle.hv_plainpp.specs.Reading.{Reading, reaches}
+use Rattle.hv_plainpp.specs.Reading.{Reading, Ending, reaches}
 use Rattle.hv_plainpp.proofs.OrdinaryText.{ordinary_text}
 use Rattle.hv_print.specs.Shown.{shown}
 use Rattle.hv_toks.specs.Cutting.{IsCut, tokens}
@@ -76,15 +78,21 @@ identified at [] cs = []
 identified at (t ∷ toks) [] = []
 identified at (t ∷ toks) (c ∷ cs) = (c, identity at t) ∷ identified at toks cs
 
+-- the place of a token's episode
+abbrev place : Identity → Place
+place i = i.place
+
 all_become : (at : Entered) (toks : List PpTok) (cs : List CTok)
     → map (becomes Allowed) toks ≡ map kept cs
-    → c_tokens Allowed (given (map (own_episode at) toks)) ≡ reaches (identified at toks cs)
+    → c_tokens place Allowed (given (map (own_episode at) toks)) ≡ reaches (identified at toks cs)
 all_become at [] cs e = refl
 all_become at (t ∷ toks) [] e = cc
 all_become at (t ∷ toks) (c ∷ cs) e =
     let both = heads (becomes Allowed t) (kept c) (map (becomes Allowed) toks) (map kept cs) e in
-    ap (λ r. with_token r (identity at t) (c_tokens Allowed (given (map (own_episode at) toks)))) both.0
-    ∙ ap (with_token (Ok c) (identity at t)) (all_become at toks cs both.1)
+    let rest : Ending (List (CTok × Identity)) =
+    c_tokens place Allowed (given (map (own_episode at) toks)) in
+    ap (λ (r : Result CTok Why). with_token place r (identity at t) rest) both.0
+    ∙ ap (with_token place (Ok c) (identity at t)) (all_become at toks cs both.1)
 
 same_tokens : (at : Entered) (toks : List PpTok) (cs : List CTok)
     → map (becomes Allowed) toks ≡ map kept cs → map (λ t. t.0) (identified at toks cs) ≡ cs
