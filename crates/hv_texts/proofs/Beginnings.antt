@@ -1,9 +1,8 @@
 -- Entries that are the first of a reading's episodes, and one more of them.
-use Rattle.std.proofs.Common.{◌≡◌, ℕ, zero, suc, Bool, true, false, cond, List, [], ◌∷◌, ◌++◌, map, refl, sym, ◌∙◌, ap, subst, arith}
-use Rattle.std.specs.Prelude.{filter, zip}
+use Rattle.std.proofs.Common.{◌≡◌, Bool, true, false, cond, List, [], ◌∷◌, ◌++◌, refl, sym, ◌∙◌, ap, subst}
+use Rattle.std.specs.Prelude.{zip}
 use Rattle.std.specs.List.{AllByRecursion}
 use Rattle.hv_cond.specs.Diagram.{AllNodes, Diagram, IsNode, Keeps, holds}
-use Rattle.hv_cond.specs.declared.conditions.Cond.{Cond}
 use Rattle.hv_given.specs.Given.{AreEpisodes, IsEpisode, given_in}
 use Rattle.hv_given.specs.declared.given.Given.{Given}
 use Rattle.hv_plainpp.specs.Reading.{Met}

@@ -1,6 +1,6 @@
 -- The episodes of a text at a position, and where they are met.
-use Rattle.std.proofs.Common.{◌≡◌, ◌+◌, ◌-◌, ◌<◌, ◌≤◌, ℕ, zero, suc, Bool, true, List, [], ◌∷◌, ◌++◌, length, drop, map, refl, sym, ◌∙◌, ap, subst, arith}
-use Rattle.std.specs.Prelude.{Contains, slice_index_or}
+use Rattle.std.proofs.Common.{◌≡◌, ◌+◌, ◌-◌, ℕ, zero, suc, Bool, List, [], ◌∷◌, length, drop, refl, sym, ◌∙◌, ap, subst, arith}
+use Rattle.std.specs.Prelude.{Contains}
 use Rattle.std.specs.List.{AllByRecursion}
 use Rattle.hv_base.specs.declared.limits.TheConstants.{MOST_EVENTS}
 use Rattle.hv_base.specs.declared.place.Place.{Place}
@@ -14,7 +14,7 @@ use Rattle.hv_given.specs.declared.given.Given.{Given}
 use Rattle.hv_plain.specs.declared.episode.RunEnd.{RunEnd}
 use Rattle.hv_plain.specs.episode.Episode.{episode, goes_on, start}
 use Rattle.hv_plain.specs.episode.Expansion.{Episode, Event, Result, expands, fails, run as run_from}
-use Rattle.hv_plainpp.specs.Files.{Entered, place_of}
+use Rattle.hv_plainpp.specs.Files.{place_of}
 use Rattle.hv_plainpp.specs.Reading.{Met, Reading, continued, refusal}
 use Rattle.hv_plainpp.specs.Text.{episodes, with_episode}
 use Rattle.hv_texts.proofs.Stepping.{IsComing}

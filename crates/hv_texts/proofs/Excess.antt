@@ -1,6 +1,6 @@
 -- Too many faces of an episode are too many of its place.
-use Rattle.std.proofs.Common.{◌≡◌, ◌<◌, ℕ, zero, suc, Bool, true, List, [], ◌∷◌, length, refl, sym, ◌∙◌, ap, subst, arith}
-use Rattle.std.specs.Prelude.{All, Contains, slice_index_or}
+use Rattle.std.proofs.Common.{◌≡◌, Bool, true, List, [], ◌∷◌}
+use Rattle.std.specs.Prelude.{All}
 use Rattle.std.proofs.lemmas.List.Elements.{All-cons, All-nil}
 use Rattle.hv_base.specs.declared.place.Place.{Place}
 use Rattle.hv_cond.specs.Diagram.{Diagram, holds}

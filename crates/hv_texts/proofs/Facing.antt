@@ -1,11 +1,11 @@
 -- Entries agree in face, with one more.
-use Rattle.std.proofs.Common.{◌≡◌, ◌<◌, ◌≤◌, ◌↔◌, ◌⊎◌, inl, inr, ℕ, zero, suc, Bool, true, false, List, [], ◌∷◌, ◌++◌, length, refl, sym, ◌∙◌, ap, subst, arith}
+use Rattle.std.proofs.Common.{◌≡◌, ◌↔◌, ◌⊎◌, inl, inr, ℕ, Bool, true, false, List, [], ◌∷◌, ◌++◌, refl, sym, ◌∙◌, ap, subst, arith}
 use Rattle.std.specs.Prelude.{All, slice_index_or, zip}
-use Rattle.std.proofs.lemmas.List.Elements.{All-nil, All-push, All-weaker}
+use Rattle.std.proofs.lemmas.List.Elements.{All-push, All-weaker}
 use Rattle.hv_base.specs.declared.place.Place.{Place}
 use Rattle.hv_cond.specs.Diagram.{AllNodes, Diagram, Keeps, holds}
 use Rattle.hv_cond.specs.declared.conditions.Cond.{Cond}
-use Rattle.hv_given.specs.Given.{AgreeInFace, AllAgree, IsEpisode, given_in}
+use Rattle.hv_given.specs.Given.{AgreeInFace, AllAgree, given_in}
 use Rattle.hv_given.specs.declared.given.Given.{Given}
 use Rattle.hv_plain.specs.episode.Expansion.{Event}
 use Rattle.hv_plainpp.specs.Reading.{Met, Reading, continued}

@@ -1,13 +1,13 @@
 -- The outcomes of a controlling line are judged.
-use Rattle.std.proofs.Common.{◌≡◌, ◌+◌, ◌<◌, ◌≤◌, ◌||◌, ◌⊎◌, inl, inr, ℕ, zero, suc, Bool, true, false, not, List, [], ◌∷◌, ◌++◌, length, refl, sym, ◌∙◌, ap, subst, arith, Option, Some, None}
-use Rattle.std.specs.Prelude.{All, Contains, slice_get, slice_index_or}
+use Rattle.std.proofs.Common.{◌≡◌, ◌+◌, ◌<◌, ◌≤◌, ◌||◌, ◌⊎◌, inl, inr, ℕ, zero, suc, Bool, true, false, List, [], ◌∷◌, ◌++◌, refl, sym, ◌∙◌, ap, subst, arith, Option, Some, None}
+use Rattle.std.specs.Prelude.{Contains, slice_get, slice_index_or}
 use Rattle.std.proofs.lemmas.Bool.{both_ways, or_cases}
 use Rattle.std.proofs.lemmas.List.{append_assoc}
 use Rattle.std.proofs.lemmas.List.Elements.{All-push}
 use Rattle.hv_base.specs.declared.limits.TheConstants.{MOST_FACES}
 use Rattle.hv_base.specs.declared.place.Place.{Place}
 use Rattle.hv_base.specs.declared.why.Why.TheVariants.{BadCondition}
-use Rattle.hv_cond.specs.Diagram.{AllNodes, Diagram, IsNode, Keeps, holds}
+use Rattle.hv_cond.specs.Diagram.{Diagram, IsNode, Keeps, holds}
 use Rattle.hv_cond.specs.Laws.{Keeps-refl, Keeps-trans}
 use Rattle.hv_cond.specs.Parts.{count_satisfied}
 use Rattle.hv_cond.specs.declared.conditions.Cond.{Cond}
@@ -42,7 +42,7 @@ use Rattle.hv_texts.specs.declared.came.Found.{Found}
 use Rattle.hv_texts.specs.declared.came.Found.TheVariants as found
 use Rattle.hv_texts.specs.declared.came.TooMany.{TooMany}
 use Rattle.hv_texts.specs.declared.came.Truths.{Truths}
-use Rattle.hv_texts.specs.working.Sorting.{AreFaced, IsMoved, IsSorted, left}
+use Rattle.hv_texts.specs.working.Sorting.{IsMoved, IsSorted, left}
 use Rattle.hv_texts.specs.working.Steps.{AreOutcomes, HasNumber, IfFound, IsFaultAt, IsJudging, IsLineRead, IsRead, entry, line_reads, truth_left, way_of_truth, way_on_line}
 use Rattle.hv_toks.specs.Macro.{Macro}
 use Rattle.hv_toks.specs.Spelled.{Spelled, all_spelled}

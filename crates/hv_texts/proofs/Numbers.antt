@@ -1,20 +1,20 @@
 -- What is so of each outcome of an episode, and by which numbers they are told apart.
-use Rattle.std.proofs.Common.{◌≡◌, ◌+◌, ◌<◌, ◌≤◌, ◌↔◌, ◌⊎◌, inl, inr, ℕ, zero, suc, Bool, true, false, List, [], ◌∷◌, ◌++◌, drop, length, map, refl, sym, ◌∙◌, ap, subst, arith}
+use Rattle.std.proofs.Common.{◌≡◌, ◌+◌, ◌<◌, ◌≤◌, ◌↔◌, ◌⊎◌, inl, inr, ℕ, suc, Bool, true, List, [], ◌∷◌, ◌++◌, drop, length, refl, sym, ◌∙◌, ap, subst, arith}
 use Rattle.std.specs.Prelude.{All, slice_index_or}
 use Rattle.std.proofs.lemmas.Bool.{cases_lt, false_from_ne_true}
 use Rattle.std.proofs.lemmas.List.{get_or-map, get_or_at, length-append, length-map}
 use Rattle.hv_base.specs.declared.limits.TheConstants.{MOST_FACES}
 use Rattle.hv_cond.specs.Diagram.{AllNodes, Diagram, IsNode, IsNever, holds}
-use Rattle.hv_cond.specs.Parts.{NoneFalse, count_satisfied}
+use Rattle.hv_cond.specs.Parts.{NoneFalse}
 use Rattle.hv_cond.specs.declared.conditions.Cond.{Cond}
-use Rattle.hv_expand.specs.Outcomes.{AreNumbered, IsOfOneFace, IsRight, conditions}
+use Rattle.hv_expand.specs.Outcomes.{AreNumbered, IsRight, conditions}
 use Rattle.hv_expand.specs.declared.outcome.Outcome.{Outcome}
 use Rattle.hv_macros.specs.Table.{meaning_in}
 use Rattle.hv_macros.specs.declared.tables.MacroTable.{MacroTable}
 use Rattle.hv_plain.specs.declared.episode.RunEnd.{RunEnd}
 use Rattle.hv_plain.specs.episode.Episode.{episode, goes_on}
 use Rattle.hv_plain.specs.episode.Expansion.{Result, expands, fails}
-use Rattle.hv_texts.proofs.Counting.{bit, count_at, count_once, if_at_most, if_one}
+use Rattle.hv_texts.proofs.Counting.{count_at, count_once, if_at_most, if_one}
 use Rattle.hv_texts.specs.working.Steps.{AreOutcomes, HasNumber}
 use Rattle.hv_toks.specs.declared.token.PpTok.{PpTok}
 

@@ -1,7 +1,7 @@
 -- The steps of sorting the configurations of a condition.
 use Rattle.std.proofs.Common.{◌≡◌, ◌+◌, ◌<◌, ◌≤◌, ◌||◌, ◌⊎◌, inl, inr, ℕ, zero, suc, Bool, true, false, List, [], ◌∷◌, ◌++◌, length, refl, sym, ◌∙◌, ap, subst, arith}
 use Rattle.std.specs.Prelude.{All, slice_index_or, slice_set}
-use Rattle.std.proofs.lemmas.Bool.{both_ways, cases_Bool, cases_eq, or_cases, true≢false}
+use Rattle.std.proofs.lemmas.Bool.{cases_eq, or_cases}
 use Rattle.std.proofs.lemmas.List.{get_or-set_other, get_or-set_same, length-set}
 use Rattle.std.proofs.lemmas.List.Elements.{All-cons, All-nil}
 use Rattle.std.proofs.lemmas.List.Sums.{sum_by-set}
@@ -19,7 +19,7 @@ use Rattle.hv_plainpp.specs.Reading.{Met, Reading, continued, refusal, refused a
 use Rattle.hv_texts.proofs.Beginnings.{begun_all, begun_more, given_in_kept, given_in_with, given_in_without, given_nodes_more}
 use Rattle.hv_texts.proofs.Counting.{bit, count_at, count_cons, count_refused, count_some, if_at_most, if_one, node_at, none_if, one_if, some_refused}
 use Rattle.hv_texts.specs.Readings.{AreMet, conditions_of}
-use Rattle.hv_texts.specs.working.Sorting.{IsBegun, IsGoing, IsInSlot, IsMoved, IsRefusedMore, IsSorted, Way, left, to_refusal, to_slot}
+use Rattle.hv_texts.specs.working.Sorting.{IsBegun, IsGoing, IsMoved, IsSorted, Way, left, to_refusal, to_slot}
 use Rattle.hv_toks.specs.Division.{Divides, conditions}
 use Rattle.hv_toks.specs.declared.parted.Failing.{Failing}
 

@@ -1,5 +1,5 @@
 -- The configurations of one condition get their entry and go on.
-use Rattle.std.proofs.Common.{◌≡◌, ◌↔◌, ℕ, Bool, true, List, [], ◌∷◌, ◌++◌, refl, sym, ◌∙◌, ap, subst}
+use Rattle.std.proofs.Common.{◌≡◌, ◌↔◌, ℕ, Bool, true, List, [], ◌∷◌, ◌++◌}
 use Rattle.hv_base.specs.declared.place.Place.{Place}
 use Rattle.hv_cond.specs.Diagram.{Diagram, Keeps, holds}
 use Rattle.hv_cond.specs.declared.conditions.Cond.{Cond}

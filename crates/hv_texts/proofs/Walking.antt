@@ -1,10 +1,10 @@
 -- A text is expanded from one position to the next.
-use Rattle.std.proofs.Common.{◌≡◌, ◌+◌, ◌-◌, ◌<◌, ◌≤◌, ◌↔◌, ℕ, zero, suc, Bool, true, false, List, [], ◌∷◌, ◌++◌, length, drop, replicate, get_or, refl, sym, ◌∙◌, ap, subst, arith, add-one}
-use Rattle.std.specs.Prelude.{All, Contains, slice_index_or, slice_set, zip}
+use Rattle.std.proofs.Common.{◌≡◌, ◌+◌, ◌<◌, ℕ, zero, suc, Bool, true, false, List, [], ◌∷◌, ◌++◌, length, drop, replicate, get_or, refl, sym, ◌∙◌, ap, subst, arith, add-one}
+use Rattle.std.specs.Prelude.{All, slice_index_or, slice_set}
 use Rattle.std.specs.List.{AllByRecursion}
 use Rattle.std.proofs.lemmas.Bool.{both_ways}
-use Rattle.std.proofs.lemmas.List.{append_assoc, drop_all, drop_more, length-drop}
-use Rattle.std.proofs.lemmas.List.Elements.{All-contains, All-from_recursion, All-nil, All-push}
+use Rattle.std.proofs.lemmas.List.{append_assoc, drop_more, length-drop}
+use Rattle.std.proofs.lemmas.List.Elements.{All-contains, All-from_recursion, All-push}
 use Rattle.hv_base.specs.declared.limits.TheConstants.{MOST_FACES}
 use Rattle.hv_base.specs.declared.place.Place.{Place}
 use Rattle.hv_cond.specs.Diagram.{AllNodes, Diagram, IsNode, Keeps, holds}
@@ -14,7 +14,7 @@ use Rattle.hv_cond.specs.declared.conditions.Cond.{Cond}
 use Rattle.hv_expand.specs.Outcomes.{HaveOneFace, conditions}
 use Rattle.hv_expand.specs.declared.outcome.Outcome.{Outcome}
 use Rattle.hv_faces.specs.Faces.{AreTooMany}
-use Rattle.hv_given.specs.Given.{AllAgree, IsEpisode, given_in}
+use Rattle.hv_given.specs.Given.{IsEpisode, given_in}
 use Rattle.hv_given.specs.declared.given.Given.{Given}
 use Rattle.hv_macros.specs.Table.{meaning_in}
 use Rattle.hv_macros.specs.declared.tables.MacroTable.{MacroTable}
@@ -25,17 +25,17 @@ use Rattle.hv_plainpp.specs.Files.{place_of}
 use Rattle.hv_plainpp.specs.Plainpp.{HasFace}
 use Rattle.hv_plainpp.specs.Reading.{Met, Reading}
 use Rattle.hv_texts.proofs.Beginnings.{given_in_all, pairs_from_given}
-use Rattle.hv_texts.proofs.Counting.{bit, count_cons, if_at_most, if_one, none_if, one_if}
+use Rattle.hv_texts.proofs.Counting.{count_cons, if_one, none_if, one_if}
 use Rattle.hv_texts.proofs.Episodes.{IsMetFirst, IsMetIn, apart_drop, begun_contains, begun_each, free_from, met_first, text_goes}
 use Rattle.hv_texts.proofs.Excess.{has_too_many}
 use Rattle.hv_texts.proofs.Facing.{faced_first, faced_kept}
 use Rattle.hv_texts.proofs.Numbers.{its_end, its_few, its_node, its_right, once, own_number}
-use Rattle.hv_texts.proofs.Sorting.{are_met, divides, popped, refused_so, sorted_kept, split}
+use Rattle.hv_texts.proofs.Sorting.{popped, sorted_kept, split}
 use Rattle.hv_texts.proofs.Stepping.{IsComing, faced_step, sorted_step}
 use Rattle.hv_texts.specs.Faces.{HasTooMany}
-use Rattle.hv_texts.specs.Readings.{AreApart, AreByFace, AreFew, AreMet, Ends}
+use Rattle.hv_texts.specs.Readings.{AreApart}
 use Rattle.hv_texts.specs.declared.origin.Origin.{Origin}
-use Rattle.hv_texts.specs.working.Sorting.{AreFaced, IsBegun, IsGoing, IsMoved, IsSorted, left, pairs}
+use Rattle.hv_texts.specs.working.Sorting.{IsBegun, IsGoing, IsMoved, IsSorted, left, pairs}
 use Rattle.hv_texts.specs.working.Steps.{AreFree, AreOutcomes, HasNumber, IsFree, IsTurn, IsWalk, entered, entry, reads, rests, tokens_in, way_on}
 use Rattle.hv_toks.specs.Macro.{Macro}
 use Rattle.hv_toks.specs.declared.parted.Failing.{Failing}

@@ -1,6 +1,6 @@
 -- How the configurations of a condition are sorted while a part of a file is read: by what is left
 -- to read in them.
-use Rattle.std.specs.Prelude.{ℕ, ◌≡◌, ◌+◌, ◌<◌, ◌||◌, Bool, true, false, List, [], ◌∷◌, ◌++◌, All, length, slice_index_or, slice_set, zip, if◌then◌else◌}
+use Rattle.std.specs.Prelude.{ℕ, ◌≡◌, ◌+◌, ◌<◌, ◌||◌, Bool, true, false, List, [], ◌∷◌, All, length, slice_index_or, slice_set, zip, if◌then◌else◌}
 use Rattle.hv_base.specs.declared.place.Place.{Place}
 use Rattle.hv_base.specs.declared.why.Why.{Why}
 use Rattle.hv_cond.specs.Diagram.{AllNodes, Diagram, IsNode, holds}

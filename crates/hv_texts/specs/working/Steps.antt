@@ -15,7 +15,6 @@ use Rattle.hv_expand.specs.declared.outcome.Expanded.TheVariants.{Tokens, Fails}
 use Rattle.hv_expand.specs.declared.outcome.Outcome.{Outcome}
 use Rattle.hv_given.specs.Given.{AllAgree}
 use Rattle.hv_given.specs.declared.given.Given.{Given}
-use Rattle.hv_macros.specs.Table.{meaning_in}
 use Rattle.hv_macros.specs.declared.tables.MacroTable.{MacroTable}
 use Rattle.hv_plain.specs.declared.episode.RunEnd.{RunEnd}
 use Rattle.hv_plain.specs.declared.episode.RunEnd.TheVariants.{Line}

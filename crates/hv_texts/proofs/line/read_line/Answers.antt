@@ -1,7 +1,5 @@
 use Rattle.std.proofs.Common.{Bool, List, subst}
 use Rattle.std.proofs.lemmas.Result.{IfOk-weaker}
-use Rattle.hv_base.specs.declared.place.Place.{Place}
-use Rattle.hv_cond.specs.declared.conditions.Cond.{Cond}
 use Rattle.hv_macros.specs.Table.{meaning_in}
 use Rattle.hv_plainpp.specs.Reading.{Reading}
 use Rattle.hv_texts.proofs.Lines.{found_weaker, line_empty, line_same}

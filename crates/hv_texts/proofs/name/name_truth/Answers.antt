@@ -1,7 +1,5 @@
-use Rattle.std.proofs.Common.{Bool, List}
 use Rattle.std.proofs.lemmas.Result.{IfOk-weaker}
 use Rattle.hv_macros.specs.Table.{meaning_in}
-use Rattle.hv_texts.proofs.Naming.{name_ends, name_within}
 use Rattle.hv_texts.proofs.name.name_truth.Goals as goal
 
 pub returns-in_default-clause-ends : goal.returns-in_default-clause-ends

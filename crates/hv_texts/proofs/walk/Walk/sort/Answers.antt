@@ -1,6 +1,5 @@
-use Rattle.std.proofs.Common.{◌+◌, ◌-◌, List, ap, sym, subst, arith, drop}
+use Rattle.std.proofs.Common.{◌+◌, ◌-◌, ap, sym, subst, arith, drop}
 use Rattle.std.specs.Prelude.{Ok, Err, OnOk, Result}
-use Rattle.hv_cond.specs.declared.conditions.Cond.{Cond}
 use Rattle.hv_expand.specs.declared.outcome.Expanded.{Expanded}
 use Rattle.hv_texts.proofs.Slots.{slot_from, slot_node}
 use Rattle.hv_texts.specs.working.Sorting.{IsMoved}
