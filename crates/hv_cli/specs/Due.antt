@@ -92,7 +92,7 @@ IsDueTo reads command (NoFile name) = IsAbsent reads command name
 IsDueTo reads command (TooBig name size total) = IsTooBig reads command name size total
 IsDueTo reads command (BadModel found) = IsBadModel reads command found.line found.kind
 
--- the answer is due to a command, or is that there is none; then no file was asked for
+-- the answer is due to a command, or is that there is none; then no read failed or found no file
 abbrev pub IsDueFor : Reads → Option Command → Answer → Type 0
 IsDueFor reads (Some command) answer = IsDueTo reads command answer
 IsDueFor reads None answer = (answer ≡ BadWords) × IsUntouched reads

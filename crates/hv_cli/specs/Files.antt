@@ -90,7 +90,7 @@ pub record IsUnreadable (reads : Reads) (command : Command) (name : List ℕ) : 
   pub rose : Rose reads.before.faults reads.now.faults
   pub latest : reads.now.failed_name ≡ Some name
 
--- no file was asked for
+-- no read failed or found no file
 pub record IsUntouched (reads : Reads) : Type 0 where
   pub faults : reads.now.faults ≡ reads.before.faults
   pub absences : reads.now.absences ≡ reads.before.absences

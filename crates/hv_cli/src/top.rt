@@ -97,8 +97,9 @@ pub fn hercules<F: Files, I: Source, O: Sink, E: Sink>(
         (writes (O.state out.old) (O.state out.new) (E.state err.old) (E.state err.new))
         result }
 
-    // Refused words and a command without files ask for no file; nothing reads the input. The files
-    // hold and tell what they did, and no count falls, so that a further call can follow.
+    // With refused words, or a command without files, no read fails or finds no file; nothing reads
+    // the input. The files hold and tell what they did, and no count falls, so that a further call
+    // can follow.
     ensures refused_words { command_of (map string_bytes words.now) ≡ None
         → IsOrFails Status.BadWords result }
     ensures untouched { command_of (map string_bytes words.now) ≡ None
