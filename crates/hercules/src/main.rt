@@ -3,7 +3,7 @@
 #![tactic(auto)]
 
 use hv_base::Status;
-use hv_encode::hercules;
+use hv_cli::hercules;
 use hv_outside::{DirFiles, StdSink, StdSource, write_all};
 use std::alloc::AllocError;
 use std::env;

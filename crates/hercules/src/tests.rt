@@ -3,11 +3,12 @@
 mod controlling;
 mod encode;
 mod files;
+mod options;
 mod refusals;
 mod writes;
 
 use hv_base::{Config, List, Text};
-use hv_encode::hercules;
+use hv_cli::hercules;
 use hv_model::{Model, read_model};
 use hv_outside::{MemFiles, SafeSink, SafeSource, Sink};
 use hv_plain::small_run;
@@ -77,11 +78,11 @@ fn call(alloc: Global, texts: &[&str], files: &mut MemFiles) -> Result<Ended, Fa
     Ok(Ended { status, out, err })
 }
 
-/// `encode m main.c` for this model and this source.
+/// `encode --model m main.c` for this model and this source.
 fn encoded(alloc: Global, model: &str, source: &str) -> Result<Ended, Fail> {
     call(
         alloc,
-        &["encode", "m", "main.c"],
+        &["encode", "--model", "m", "main.c"],
         &mut files_in_memory(alloc, model, source, &[])?,
     )
 }

@@ -1,5 +1,5 @@
--- What a stream of tokens of C is in one configuration, and which preprocessing tokens it comes from
--- (5.1.1.2, phases 6 and 7).
+-- What a stream of tokens of C is in one configuration, and which preprocessing tokens it comes
+-- from (5.1.1.2, phases 6 and 7).
 use Rattle.std.specs.Prelude.{◌≡◌, Bool, List, map, filter}
 use Rattle.hv_base.specs.declared.place.Place.{Place}
 use Rattle.hv_base.specs.declared.place.Start.{Start}

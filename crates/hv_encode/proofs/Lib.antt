@@ -1,11 +1,8 @@
 mod Bodies
 mod Encoded
-pub mod EndsLemmas
-pub mod Finding
 mod GroupsLemmas
 mod LiftingLemmas
 mod Lists
-mod Messages
 mod OneEach
 mod Printed
 mod Product
@@ -15,4 +12,3 @@ mod Semantics
 mod SmallSources
 mod Sources
 mod Tokens
-pub mod Writing

@@ -1,5 +1,5 @@
 -- Which statements a lifting has: those that a valid configuration runs.
-use Rattle.std.proofs.Common.{◌≡◌, ℕ, zero, suc, ◌<◌, ◌≤◌, Bool, true, false, not, ◌&&◌, ◌+◌, List, [], ◌∷◌, ◌++◌, length, map, take, drop, get_or, reverse, cond, refl, sym, ◌∙◌, ap, arith, subst, IsTrue}
+use Rattle.std.proofs.Common.{◌≡◌, ℕ, zero, suc, ◌<◌, ◌≤◌, Bool, true, false, not, ◌+◌, List, [], ◌∷◌, ◌++◌, length, map, take, drop, get_or, reverse, cond, refl, sym, ◌∙◌, ap, arith, subst, IsTrue}
 use Rattle.std.specs.Prelude.{Result, Ok, Err, IfOk, ◌↔◌, MatchBool}
 use Rattle.std.specs.List.{All, AllByRecursion, flat_map, list_all, list_any}
 use Rattle.std.specs.Str.{bytes_eq}
@@ -10,7 +10,7 @@ use Rattle.std.proofs.lemmas.List.Folds.{list_all-map}
 use Rattle.std.proofs.lemmas.Slice.Eq.{bytes_eq-Decides}
 use Rattle.hv_base.proofs.Booleans.{and_parts, contrary, not_true, or_left, or_right}
 use Rattle.hv_base.proofs.Lists.{reverse-cons}
-use Rattle.hv_cond.specs.Diagram.{AreDisjoint, Diagram, Keeps, Meet, holds, value_of}
+use Rattle.hv_cond.specs.Diagram.{AreDisjoint, Diagram, Keeps, Meet, value_of}
 use Rattle.hv_cond.specs.Laws.{Keeps-trans}
 use Rattle.hv_cond.specs.declared.conditions.Cond.{Cond}
 use Rattle.hv_model.specs.Name.{are_distinct}

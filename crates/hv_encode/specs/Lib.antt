@@ -1,8 +1,3 @@
--- What the program promises. Read Ends (how a call ends, status by status, and the headline), then
--- Due (which answer is due), Answer (its status, output and message), Given (how it is given).
--- `working` is about the steps of single functions.
-pub mod Answer
-pub mod Due
-pub mod Ends
-pub mod Given
+-- The public clauses are stated by the definitions of hv_plain and hv_model. `working` is about the
+-- steps of single functions.
 pub mod working

@@ -1,6 +1,4 @@
 -- What single functions do. No promise of the program rests on these.
-pub mod Found
-pub mod Given
 pub mod Lift
 pub mod Lines
 pub mod Presence

@@ -1,5 +1,5 @@
 -- The numbers of a place and a cause stand for no other ones.
-use Rattle.std.proofs.Common.{◌≡◌, ℕ, eqb, cond, List, [], ◌∷◌, refl, sym, ◌∙◌, ap}
+use Rattle.std.proofs.Common.{◌≡◌, ℕ, eqb, cond, List, refl, sym, ◌∙◌, ap}
 use Rattle.hv_base.specs.Why.{number_of}
 use Rattle.hv_base.specs.declared.place.Place.{Place}
 use Rattle.hv_base.specs.declared.why.Why.{Why}

@@ -1,5 +1,5 @@
 -- An entry that is put among others, in the place of the one of its place and cause or at the end.
-use Rattle.std.proofs.Common.{◌≡◌, ◌↔◌, ◌⊎◌, ◌||◌, ◌+◌, ℕ, Bool, true, false, cond, List, [], ◌∷◌, refl, sym, ◌∙◌, ap, subst, arith, inl, inr, zero-add, eqb}
+use Rattle.std.proofs.Common.{◌≡◌, ◌⊎◌, ◌||◌, ◌+◌, ℕ, Bool, true, false, cond, List, [], ◌∷◌, refl, sym, ◌∙◌, ap, subst, arith, inl, inr, zero-add, eqb}
 use Rattle.std.specs.Prelude.{Option, Some, None, IfSome, map}
 use Rattle.std.specs.Bool.{Decides}
 use Rattle.std.specs.Cmp.Lexicographic.{pointwise}
@@ -73,8 +73,10 @@ module _ {K : Type 0} (numbers : K → List ℕ) (key : K) (v : Failing)
           sym all.0 ∙ (sym (same.0 refl) ∙ own) in
           inl (
             refl,
-            (key_place e.1.place v.place e.1.why v.why numbers_same,
-              key_cause e.1.place v.place e.1.why v.why numbers_same),
+            (
+              key_place e.1.place v.place e.1.why v.why numbers_same,
+              key_cause e.1.place v.place e.1.why v.why numbers_same,
+            ),
             refl,
           )
       step false same rest = inr (other same.1, (map (λ e. e.1) (entered es), refl, rest))

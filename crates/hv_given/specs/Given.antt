@@ -1,7 +1,7 @@
 -- What the episodes of a translation unit give under all configurations, and what that is in one
 -- of them.
 -- Not in here: what an episode is, and which are met.
-use Rattle.std.specs.Prelude.{ℕ, ◌≡◌, ◌↔◌, ◌+◌, Bool, List, [], ◌∷◌, filter, flat_map, zip, All}
+use Rattle.std.specs.Prelude.{ℕ, ◌≡◌, ◌↔◌, ◌+◌, Bool, List, [], ◌∷◌, filter, flat_map, All}
 use Rattle.hv_base.specs.declared.place.Start.{Start}
 use Rattle.hv_cond.specs.Diagram.{Diagram, holds}
 use Rattle.hv_given.specs.declared.given.Given.{Given}

@@ -1,13 +1,13 @@
--- Laws of refusals, for proofs above: a store that grows changes none, and what is so of each refused
--- configuration is so of each entry.
-use Rattle.std.specs.Prelude.{◌≡◌, ◌↔◌, ◌⊎◌, true, Bool, List, [], ◌∷◌, All, length}
+-- Laws of refusals, for proofs above: a store that grows changes none, and what is so of each
+-- refused configuration is so of each entry.
+use Rattle.std.specs.Prelude.{◌≡◌, true, Bool, List, [], ◌∷◌, All}
 use Rattle.std.proofs.Common.{sym, ◌∙◌, refl, inl, inr, arith}
 use Rattle.std.proofs.lemmas.List.Elements.{All-cons}
 use Rattle.hv_base.specs.declared.place.Place.{Place}
 use Rattle.hv_base.specs.declared.why.Why.{Why}
 use Rattle.hv_cond.specs.Diagram.{AllNodes, Diagram, Keeps, holds}
 use Rattle.hv_cond.specs.Laws.{AllNodes-kept, NoneFalse-kept}
-use Rattle.hv_given.specs.Refusals.{AreRefusals, IsRefusedAt, Refuses}
+use Rattle.hv_given.specs.Refusals.{AreRefusals, IsRefusedAt}
 use Rattle.hv_toks.specs.Division.{conditions}
 use Rattle.hv_toks.specs.declared.parted.Failing.{Failing}
 
@@ -58,5 +58,9 @@ IsRefusedAt-each diagram P [] h = λ k d l. absurd (omega arith)
 IsRefusedAt-each diagram P (f ∷ failing) h =
     All-cons (λ (f : Failing). (values : List Bool) → holds diagram f.cond values ≡ true
     → P values f.place f.why) f failing
-    (λ values e. h values f.place f.why (inl (record { same_place = refl; same_cause = refl; here = e })))
+    (λ values e. h values f.place f.why (inl (record {
+      same_place = refl;
+      same_cause = refl;
+      here = e;
+    })))
     (IsRefusedAt-each diagram P failing (λ values place why r. h values place why (inr r)))

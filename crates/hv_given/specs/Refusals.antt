@@ -1,6 +1,6 @@
 -- The configurations that are refused so far, by place and cause.
 -- Not in here: which refusal is right, and that no configuration is refused twice.
-use Rattle.std.specs.Prelude.{ℕ, ◌≡◌, ◌+◌, ◌↔◌, ◌⊎◌, true, Bool, List, [], ◌∷◌, if◌then◌else◌}
+use Rattle.std.specs.Prelude.{◌≡◌, ◌+◌, ◌↔◌, ◌⊎◌, true, Bool, List, [], ◌∷◌, if◌then◌else◌}
 use Rattle.hv_base.specs.declared.place.Place.{Place}
 use Rattle.hv_base.specs.declared.why.Why.{Why}
 use Rattle.hv_cond.specs.Diagram.{AllNodes, Diagram, holds}
@@ -10,8 +10,8 @@ use Rattle.hv_toks.specs.Division.{AreDistinct, conditions}
 use Rattle.hv_toks.specs.declared.parted.Failing.{Failing}
 
 -- an entry is of this place and cause, and holds where the options have these values
-pub record Refuses (diagram : Diagram) (f : Failing) (values : List Bool) (place : Place) (why : Why)
-    : Type 0 where
+pub record Refuses (diagram : Diagram) (f : Failing) (values : List Bool) (place : Place)
+    (why : Why) : Type 0 where
   pub same_place : f.place ≡ place
   pub same_cause : f.why ≡ why
   pub here : holds diagram f.cond values ≡ true

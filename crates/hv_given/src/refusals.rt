@@ -14,8 +14,8 @@ use std::alloc::Global;
 use std::marker::Model;
 
 /// The configurations that are refused so far, one entry for each place and cause, in the order of
-/// the first refusals. An entry is found by numbers, whatever their count. Contracts see the list of
-/// the entries; their conditions are nodes of one store.
+/// the first refusals. An entry is found by numbers, and not by going through the others. Contracts
+/// see the list of the entries; their conditions are nodes of one store.
 #[derive(Drop)]
 pub struct Refusals {
     alloc: Global,
@@ -59,8 +59,9 @@ fn joined(
     ensures keeps { Keeps store.old store.new }
     ensures node { IfOk result (λ c. IsNode store.new c) }
     ensures meaning { IfOk result (λ c. (values : List Bool) → holds store.new c values
-        ≡ (found_holds store.old (lookup (λ k. pointwise nat_eq key.now k.items) entries.now.entries)
-        values || holds store.old cond values)) }
+        ≡ (found_holds store.old
+        (lookup (λ k. pointwise nat_eq key.now k.items) entries.now.entries) values
+        || holds store.old cond values)) }
 {
     match entries.get(key) {
         Some(entry) => Ok(store.or(entry.cond, cond)?),

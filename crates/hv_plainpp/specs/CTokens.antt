@@ -53,6 +53,6 @@ with_strings_joined (refused why place) = refused why place
 abbrev pub ending_of : {A : Type 0} → ReservedNames → Reading A → Ending (List (CTok × Identity))
 ending_of reserved unit = elim unit.ending [
   | reaches value ↦
-    with_strings_joined (c_tokens (λ (i : Identity). i.place) reserved (given unit.met))
+      with_strings_joined (c_tokens (λ (i : Identity). i.place) reserved (given unit.met))
   | refused why place ↦ refused why place
 ]

@@ -15,3 +15,6 @@ mod word;
 pub use laws::keeps_tokens;
 pub use program::print;
 pub use token::print_tokens;
+
+#[cfg(test)]
+mod tests;

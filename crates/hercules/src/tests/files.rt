@@ -3,25 +3,34 @@ use super::*;
 
 #[test]
 fn files_are_missing_or_fail(rt: HostRuntime) -> Result<(), Fail> {
-    let table: [(&[&str], &[u64], &str); 6] = [
-        (&["encode", "n", "main.c"], &[], "hercules: no file n\n"),
-        (&["encode", "m", "n.c"], &[], "hercules: no file n.c\n"),
-        (&["encode", "n", "n.c"], &[], "hercules: no file n\n"),
-        (&["encode", "n", "main.c"], &[2], "hercules: no file n\n"),
+    let table: [(&[&str], &[u64], &str); 9] = [
+        (&["encode", "--model", "n", "main.c"], &[], "no file n"),
+        (&["encode", "--model", "m", "n.c"], &[], "no file n.c"),
+        (&["encode", "--model", "n", "n.c"], &[], "no file n"),
+        (&["encode", "n.c"], &[], "no file n.c"),
+        (&["encode", "--model=n", "main.c"], &[2], "no file n"),
+        (&["encode", "--model=m", "main.c"], &[1], "cannot read m"),
         (
-            &["encode", "m", "main.c"],
-            &[1],
-            "hercules: cannot read m\n",
+            &["encode", "--model=m", "main.c"],
+            &[2],
+            "cannot read main.c",
         ),
         (
-            &["encode", "m", "main.c"],
-            &[2],
-            "hercules: cannot read main.c\n",
+            &["options", "--model", "n", "--config", "X"],
+            &[],
+            "no file n",
+        ),
+        (
+            &["options", "--model", "m", "--config", "X"],
+            &[1],
+            "cannot read m",
         ),
     ];
-    for (texts, fails, message) in table {
+    for (texts, fails, fault) in table {
+        let message = format!(in rt.alloc(); "hercules: {fault}\n")?;
         let mut files = files_in_memory(rt.alloc(), MODEL_A, WRITES_X_AND_A, fails)?;
-        assert_ended(&rt, &call(rt.alloc(), texts, &mut files)?, 3, "", message);
+        let ended = call(rt.alloc(), texts, &mut files)?;
+        assert_ended(&rt, &ended, 3, "", message.as_str());
     }
     Ok(())
 }
@@ -34,15 +43,21 @@ fn beyond_the_limit(alloc: Global) -> Result<Text, Fail> {
 
 #[test]
 fn files_beyond_the_limit_are_refused(rt: HostRuntime) -> Result<(), Fail> {
-    let table = [
-        ("m", "hercules: too big m 16777217 0\n"),
-        ("main.c", "hercules: too big main.c 16777217 16777217\n"),
+    let table: [(&[&str], &str, &str); 3] = [
+        (&["encode", "--model=m", "main.c"], "m", "m 16777217 0"),
+        (
+            &["encode", "--model=m", "main.c"],
+            "main.c",
+            "main.c 16777217 16777217",
+        ),
+        (&["options", "--model=m"], "m", "m 16777217 0"),
     ];
-    for (name, message) in table {
+    for (texts, name, fault) in table {
+        let message = format!(in rt.alloc(); "hercules: too big {fault}\n")?;
         let mut files = files_in_memory(rt.alloc(), MODEL_A, WRITES_X_AND_A, &[])?;
         files.put(name, beyond_the_limit(rt.alloc())?)?;
-        let ended = call(rt.alloc(), &["encode", "m", "main.c"], &mut files)?;
-        assert_ended(&rt, &ended, 3, "", message);
+        let ended = call(rt.alloc(), texts, &mut files)?;
+        assert_ended(&rt, &ended, 3, "", message.as_str());
     }
     Ok(())
 }

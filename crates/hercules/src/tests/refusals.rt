@@ -3,12 +3,18 @@ use super::*;
 
 #[test]
 fn other_arguments_are_refused(rt: HostRuntime) -> Result<(), Fail> {
-    let commands: [&[&str]; 5] = [
+    let commands: [&[&str]; 10] = [
         &[],
         &["encode"],
-        &["encode", "main.c"],
-        &["decode", "m", "main.c"],
-        &["encode", "m", "main.c", "x"],
+        &["encode", "m", "main.c"],
+        &["decode", "--model", "m", "main.c"],
+        &["encode", "--model", "m", "main.c", "x"],
+        &["encode", "--config", "A", "main.c"],
+        &["encode", "-I", "d:", "main.c"],
+        &["options", "--model", "m", "main.c"],
+        &["options", "--help"],
+        // It isn't built yet.
+        &["variant", "--model", "m", "main.c"],
     ];
     for texts in commands {
         // The first read would fail, so no file is asked for.

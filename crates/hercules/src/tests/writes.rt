@@ -28,7 +28,7 @@ fn memory_runs_out_in_a_write(rt: HostRuntime) -> Result<(), Fail> {
     let mut err = SafeSink::new(rt.alloc());
     let status = status(
         rt.alloc(),
-        &["encode", "m", "main.c"],
+        &["encode", "--model", "m", "main.c"],
         &mut files,
         &mut out,
         &mut err,
@@ -39,8 +39,8 @@ fn memory_runs_out_in_a_write(rt: HostRuntime) -> Result<(), Fail> {
     Ok(())
 }
 
-/// The status, the output and the messages of `encode m main.c` with an output that takes at most
-/// `most` bytes a call, and fails at the call of this number.
+/// The status, the output and the messages of `encode --model m main.c` with an output that takes
+/// at most `most` bytes a call, and fails at the call of this number.
 fn encode_to(alloc: Global, most: usize, fail: u64) -> Result<(u8, MemSink, SafeSink), Fail> {
     if most == 0 {
         return Err("a sink takes at least one byte".into());
@@ -50,7 +50,7 @@ fn encode_to(alloc: Global, most: usize, fail: u64) -> Result<(u8, MemSink, Safe
     let mut err = SafeSink::new(alloc);
     let status = status(
         alloc,
-        &["encode", "m", "main.c"],
+        &["encode", "--model", "m", "main.c"],
         &mut files,
         &mut out,
         &mut err,

@@ -1,4 +1,4 @@
-use Rattle.std.proofs.Common.{◌≡◌, Bool, true, false, List, ◌∷◌, refl, sym, ◌∙◌, ap, subst}
+use Rattle.std.proofs.Common.{◌≡◌, true, false, refl, sym, subst}
 use Rattle.std.specs.Prelude.{map}
 use Rattle.hv_cond.specs.Diagram.{AllNodes}
 use Rattle.hv_cond.specs.Laws.{holds-falsity}

@@ -1,0 +1,6 @@
+mod DefinitionsLemmas
+pub mod EndsLemmas
+pub mod Finding
+mod Messages
+mod Rows
+pub mod Writing

@@ -1,0 +1,102 @@
+-- Which answer is due, by the words, the files, the model, the configuration and the source.
+use Rattle.std.specs.Prelude.{ℕ, ◌≡◌, Bool, List, Option, Some, None}
+use Rattle.hv_model.specs.Config.{text_of}
+use Rattle.hv_model.specs.Lines.{Says, fault}
+use Rattle.hv_model.specs.Model.{IsModelOf}
+use Rattle.hv_model.specs.Rule.{Features, IsLeastValid}
+use Rattle.hv_model.specs.declared.faults.ModelKind.{ModelKind}
+use Rattle.hv_plain.specs.Source.{SourceLine, IsSmallSource}
+use Rattle.hv_plain.specs.Run.{Encodes}
+use Rattle.hv_words.specs.Commands.{Command, Sources, encode, options}
+use Rattle.hv_cli.specs.declared.read.Role.TheVariants.{Model, Main}
+use Rattle.hv_cli.specs.declared.answer.Answer.{Answer}
+use Rattle.hv_cli.specs.declared.answer.Answer.TheVariants.{Encoded, Options, LeftOut, BadWords, BadConfig, CannotRead, NoFile, TooBig, BadModel}
+use Rattle.hv_cli.specs.Definitions.{IsConfig, definitions_of}
+use Rattle.hv_cli.specs.Files.{Reads, IsAbsent, IsRead, IsTooBig, IsUnreadable, IsUntouched, command_of, config_text, name_of}
+
+-- every file of the command was read, and the model file is refused
+pub record IsBadModel (reads : Reads) (command : Command) (line : ℕ)
+    (kind : ModelKind) : Type 0 where
+  pub bytes : List ℕ
+  pub model_file : IsRead reads (name_of command Model) bytes
+  pub source : List ℕ
+  pub main : IsRead reads (name_of command Main) source
+  pub refused : Says bytes (fault line kind)
+
+-- every file of the command was read: the model file says this model, and the main file holds these
+-- bytes
+pub record IsInput (reads : Reads) (command : Command) (model : Features)
+    (source : List ℕ) : Type 0 where
+  pub bytes : List ℕ
+  pub model_file : IsRead reads (name_of command Model) bytes
+  pub accepted : IsModelOf bytes model
+  pub main : IsRead reads (name_of command Main) source
+
+-- every file of the command was read, the model is accepted, and the text of the configuration
+-- means no valid one
+pub record IsBadConfig (reads : Reads) (command : Command) : Type 0 where
+  pub model : Features
+  pub source : List ℕ
+  pub input : IsInput reads command model source
+  pub text : List ℕ
+  pub text_is : config_text command ≡ Some text
+  pub no_config : (values : List Bool) → ¬ (IsConfig model text values)
+
+-- the command is `encode`, the main file is no small source, and the configuration is the least
+-- valid one
+pub record IsLeftOut (reads : Reads) (command : Command) (config file : List ℕ) : Type 0 where
+  pub sources : Sources
+  pub command_is : command ≡ encode sources
+  pub model : Features
+  pub source : List ℕ
+  pub input : IsInput reads command model source
+  pub values : List Bool
+  pub least : IsLeastValid model values
+  pub config_is : config ≡ text_of model.names values
+  pub file_is : file ≡ sources.file
+  pub no_small_source : (body : List SourceLine) → ¬ (IsSmallSource model.names source body)
+
+-- the command is `encode`, and the text is the metaproduct of the main file for the model
+pub record IsEncoded (reads : Reads) (command : Command) (text : List ℕ) : Type 0 where
+  pub sources : Sources
+  pub command_is : command ≡ encode sources
+  pub model : Features
+  pub source : List ℕ
+  pub input : IsInput reads command model source
+  pub body : List SourceLine
+  pub small : IsSmallSource model.names source body
+  pub encodes : Encodes model source text
+
+-- the command is `options`, its configuration's text means a valid configuration of the model, and
+-- the text defines each option variable as it has it
+pub record IsDefined (reads : Reads) (command : Command) (text : List ℕ) : Type 0 where
+  pub model_name : Option (List ℕ)
+  pub config : List ℕ
+  pub command_is : command ≡ options model_name config
+  pub model : Features
+  pub source : List ℕ
+  pub input : IsInput reads command model source
+  pub values : List Bool
+  pub configuration : IsConfig model config values
+  pub text_is : text ≡ definitions_of model.names values
+
+-- the answer is due to this command
+abbrev pub IsDueTo : Reads → Command → Answer → Type 0
+IsDueTo reads command (Encoded text) = IsEncoded reads command text
+IsDueTo reads command (Options text) = IsDefined reads command text
+IsDueTo reads command (LeftOut config file) = IsLeftOut reads command config file
+IsDueTo reads command BadWords = ⊥
+IsDueTo reads command BadConfig = IsBadConfig reads command
+IsDueTo reads command (CannotRead name) = IsUnreadable reads command name
+IsDueTo reads command (NoFile name) = IsAbsent reads command name
+IsDueTo reads command (TooBig name size total) = IsTooBig reads command name size total
+IsDueTo reads command (BadModel found) = IsBadModel reads command found.line found.kind
+
+-- the answer is due to a command, or is that there is none; then no read failed or found no file
+abbrev pub IsDueFor : Reads → Option Command → Answer → Type 0
+IsDueFor reads (Some command) answer = IsDueTo reads command answer
+IsDueFor reads None answer = (answer ≡ BadWords) × IsUntouched reads
+
+-- the answer is due to these words
+abbrev pub IsDue : Reads → List (List ℕ) → Answer → Type 0
+IsDue reads words answer = IsDueFor reads (command_of words) answer

@@ -1,0 +1,13 @@
+pub mod Depths
+pub mod Reducing
+pub mod Shadows
+pub mod SpecifiersSeen
+pub mod PartsSeen
+pub mod DeclarationsSeen
+pub mod OperatorsSeen
+pub mod InitializersSeen
+pub mod StatementsSeen
+pub mod DeclaratorsSeen
+pub mod Counting
+pub mod Answering
+pub mod Saying

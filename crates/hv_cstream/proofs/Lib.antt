@@ -1,0 +1,7 @@
+-- Lemmas of this crate.
+mod Endings
+mod Starts
+mod Converting
+mod Literals
+mod Joinings
+mod Entries

@@ -1,0 +1,5 @@
+pub mod ApartLemmas
+pub mod CutLemmas
+pub mod Preprocessed
+pub mod Printed
+pub mod Programs
