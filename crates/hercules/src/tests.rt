@@ -5,6 +5,7 @@ mod encode;
 mod files;
 mod options;
 mod refusals;
+mod variant;
 mod writes;
 
 use hv_base::{Config, List, Text};

@@ -1,6 +1,9 @@
 mod DefinitionsLemmas
+pub mod DueLemmas
 pub mod EndsLemmas
 pub mod Finding
 mod Messages
+mod PositionsLemmas
 mod Rows
+pub mod UnusableLemmas
 pub mod Writing

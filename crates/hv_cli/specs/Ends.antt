@@ -1,23 +1,26 @@
 -- How a call of the program ends, status by status.
-use Rattle.std.specs.Prelude.{ℕ, ◌≡◌, ◌≢◌, ◌≤◌, ◌<◌, ◌⊎◌, Bool, List, [], ◌++◌, length, Option, Some, IsTrue, None}
+use Rattle.std.specs.Prelude.{ℕ, ◌≡◌, ◌≢◌, ◌≤◌, ◌<◌, ◌⊎◌, Bool, List, [], ◌++◌, length, Option, Some, IsTrue, None, Ok, Err}
+use Rattle.hv_base.specs.Bundles.{NamedFiles}
 use Rattle.hv_base.specs.declared.limits.TheConstants.{MOST_FILE_BYTES}
 use Rattle.hv_base.specs.declared.status.Status.{Status}
 use Rattle.hv_base.specs.declared.status.Status.TheVariants.{Done, Unwritten, Memory}
 use Rattle.hv_base.specs.Status.{code_of}
+use Rattle.hv_gather.specs.Causes.{told_answer}
+use Rattle.hv_gather.specs.declared.fault.GatherFault.TheVariants as fault
 use Rattle.hv_outside.specs.Count.{Rose}
 use Rattle.hv_model.specs.Model.{IsModelOf}
 use Rattle.hv_model.specs.Rule.{Features, IsValid}
 use Rattle.hv_plain.specs.Source.{SourceLine, IsSmallSource}
 use Rattle.hv_plain.specs.Program.{Program, IsProgramText}
 use Rattle.hv_plain.specs.Run.{IsVariant, run, start, no_start, undefined, variables_of}
-use Rattle.hv_words.specs.Commands.{Command, Sources, encode}
+use Rattle.hv_words.specs.Commands.{Command, Sources, command_of, encode}
 use Rattle.hv_cli.specs.declared.answer.Answer.{Answer}
 use Rattle.hv_cli.specs.declared.answer.Answer.TheVariants.{Encoded, CannotRead, NoFile, TooBig}
 use Rattle.hv_cli.specs.declared.read.Role.{Role}
 use Rattle.hv_cli.specs.declared.read.Role.TheVariants.{Model, Main}
 use Rattle.hv_cli.specs.Answer.{output_of, message_of}
 use Rattle.hv_cli.specs.Due.{IsDue}
-use Rattle.hv_cli.specs.Files.{Reads, command_of, name_of, total_of}
+use Rattle.hv_cli.specs.Files.{Reads, gathered_of, name_of, total_of}
 use Rattle.hv_cli.specs.Given.{Writes, IsWhole, IsUnwritten, IsStarved, OutputFailed, MessageFailed}
 
 -- the answer was due, and was given whole
@@ -84,13 +87,25 @@ pub record Headline (sources : Sources) (held : List ℕ → Option (List ℕ))
       → (run variant no_start input steps).ending ≢ undefined
       → run product (start model.names values) input steps ≡ run variant no_start input steps
 
--- the files tell that they hold these two within the limit, and no count of their faults rose
+-- the files tell what they hold, and the search among them finds this bundle of a main file with
+-- all headers that it may include, whose files are within the limits
+abbrev pub AreTold : (held : List ℕ → Option (List ℕ)) → Sources → NamedFiles → Type 0
+AreTold held sources bundle = told_answer held sources.file sources.dirs ≡ Ok bundle
+
+-- these sources, if there are any, can be gathered
+abbrev pub CanGather : (held : List ℕ → Option (List ℕ)) → Option Sources → Type 0
+CanGather held None = Unit {0}
+CanGather held (Some sources) = (bundle : NamedFiles) × AreTold held sources bundle
+
+-- the files tell that they hold these two within the limit, and what the command gathers; and no
+-- count of their faults rose
 pub record AreRead (reads : Reads) (command : Command) (model_file source : List ℕ) : Type 0 where
   pub told : IsTrue reads.before.told
   pub model_held : IsHeld reads.before.held (name_of command Model) model_file
   pub model_small : length model_file ≤ MOST_FILE_BYTES
   pub source_held : IsHeld reads.before.held (name_of command Main) source
   pub source_small : length source ≤ MOST_FILE_BYTES
+  pub gathered : CanGather reads.before.held (gathered_of command)
   pub no_read_fault : Rose reads.before.faults reads.now.faults → ⊥
 
 -- the file of this name is there and within the limit
@@ -110,15 +125,38 @@ Blames reads name role answer =
     ⊎ ((bytes : List ℕ) × (reads.before.held name ≡ Some bytes) × (MOST_FILE_BYTES < length bytes)
     × (answer ≡ TooBig name (length bytes) (total_of role (length bytes))))
 
--- the file in this role is the first of the command that can't be used, which the answer says of
--- it; and no count of faults rose
-pub record IsFirstUnusable (reads : Reads) (command : Command) (role : Role)
+-- the answer on sources without a main file, or with a file with which a limit is passed
+abbrev pub BlamesSources : Reads → Sources → Answer → Type 0
+BlamesSources reads sources answer =
+    ((told_answer reads.before.held sources.file sources.dirs ≡ Err fault.MainAbsent)
+    × (answer ≡ NoFile sources.file))
+    ⊎ ((name : List ℕ) × (size : ℕ) × (total : ℕ)
+    × (told_answer reads.before.held sources.file sources.dirs
+    ≡ Err (fault.TooBig name size total))
+    × (answer ≡ TooBig name size total))
+
+-- the file in this role, which is read alone, is the first of the command that can't be used, which
+-- the answer says of it
+pub record IsUnusable (reads : Reads) (command : Command) (role : Role)
     (answer : Answer) : Type 0 where
-  pub told : IsTrue reads.before.told
   pub name : List ℕ
   pub asked : name_of command role ≡ Some name
   pub usable_before : AreUsableBefore reads command role
   pub blamed : Blames reads name role answer
+
+-- the model file of the command can be used, and its sources can't, which the answer says of them
+pub record AreUnusable (reads : Reads) (command : Command) (answer : Answer) : Type 0 where
+  pub sources : Sources
+  pub asked : gathered_of command ≡ Some sources
+  pub usable_before : IsUsable reads (name_of command Model)
+  pub blamed : BlamesSources reads sources answer
+
+-- the files tell what they hold, the first of the command that can't be used is the one that the
+-- answer blames, and no count of faults rose
+pub record IsFirstUnusable (reads : Reads) (command : Command) (answer : Answer) : Type 0 where
+  pub told : IsTrue reads.before.told
+  pub first : ((role : Role) × IsUnusable reads command role answer)
+      ⊎ AreUnusable reads command answer
   pub no_read_fault : Rose reads.before.faults reads.now.faults → ⊥
 
 -- what completeness asks of the words, the files and the source of `encode`; and that no count of

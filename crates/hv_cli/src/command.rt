@@ -2,19 +2,20 @@
 ghost use Rattle.std.specs.Prelude.{◌≡◌, None, Some, IfOk, map};
 ghost use Rattle.std.specs.String.{string_bytes};
 ghost use Rattle.hv_outside.specs.Files.{Keeps};
-ghost use Rattle.hv_words.specs.Commands.{Command as CommandMeant};
+ghost use Rattle.hv_words.specs.Commands.{Command as CommandMeant, command_of};
 ghost use Rattle.hv_cli.specs.Due.{IsDue};
-ghost use Rattle.hv_cli.specs.Files.{HasNoFile, IsUntouched, command_of, reads};
+ghost use Rattle.hv_cli.specs.Files.{HasNoFile, IsUntouched, reads};
 
 use crate::answer::Answer;
 use crate::encode::encode;
 use crate::options::options;
+use crate::variant::variant;
 use hv_base::Memory;
 use hv_outside::Files;
 use hv_words::{Command, read_words};
 use std::alloc::Global;
 
-/// The answer that is due to the arguments of the program. `variant` isn't built yet.
+/// The answer that is due to the arguments of the program.
 pub fn answer_to<F: Files>(alloc: Global, words: &[String], files: &mut F) -> Result<Answer, Memory>
     ensures due { IfOk result (IsDue
         (reads (F.state files.old) (F.state files.new))
@@ -28,7 +29,10 @@ pub fn answer_to<F: Files>(alloc: Global, words: &[String], files: &mut F) -> Re
 {
     match read_words(alloc, words)? {
         Some(Command::Encode(sources)) => encode(alloc, files, &sources),
+        Some(Command::Variant { sources, config }) => {
+            variant(alloc, files, &sources, config.as_str())
+        }
         Some(Command::Options { model, config }) => options(alloc, files, &model, config.as_str()),
-        Some(Command::Variant { .. }) | None => Ok(Answer::BadWords),
+        None => Ok(Answer::BadWords),
     }
 }

@@ -10,8 +10,9 @@ ghost use Rattle.hv_cli.specs.Files.{reads};
 ghost use Rattle.hv_cli.specs.working.Found.{IsEncodedOf, IsLeftOutOf};
 
 use crate::answer::Answer;
+use crate::position::start_of;
 use crate::read::{Reading, Role, read_file, read_model_file};
-use hv_base::{Memory, Text};
+use hv_base::{Memory, Why};
 use hv_encode::encode_small;
 use hv_model::{ModelDiagram, ModelRefusal, print_config, read_diagram};
 use hv_outside::Files;
@@ -67,8 +68,9 @@ fn left_out(alloc: Global, diagram: &ModelDiagram, main: &str) -> Result<Answer,
     let Some(config) = diagram.least()? else {
         unreachable!("a model has a valid configuration");
     };
-    Ok(Answer::LeftOut {
+    Ok(Answer::Fails {
         config: print_config(alloc, &diagram.model, &config)?,
-        file: Text::from_slice(alloc, main.as_bytes())?,
+        position: start_of(alloc, main)?,
+        why: Why::LeftOut,
     })
 }

@@ -4,10 +4,14 @@
 mod answer;
 mod command;
 mod encode;
+mod joined;
 mod options;
+mod position;
 mod read;
 mod top;
+mod variant;
 mod write;
 
 pub use answer::Answer;
+pub use position::Position;
 pub use top::hercules;

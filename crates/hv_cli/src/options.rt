@@ -52,7 +52,11 @@ fn defined(alloc: Global, model_file: &[u8], config: &str) -> Result<Answer, Mem
 }
 
 /// The valid configuration that the text means; `None` where it means none.
-fn valid_config(alloc: Global, model: &Model, text: &str) -> Result<Option<Config>, Memory>
+pub(crate) fn valid_config(
+    alloc: Global,
+    model: &Model,
+    text: &str,
+) -> Result<Option<Config>, Memory>
     ensures some { IfOk result
         (λ found. IfSome found (λ config. IsConfig model.now text.now config.on)) }
     ensures none { IfOk result (λ found. IfNone found

@@ -2,17 +2,19 @@
 ghost use Rattle.std.specs.Prelude.{◌≡◌, Some, None, IfOk, option_map};
 ghost use Rattle.std.specs.String.{string_bytes};
 ghost use Rattle.hv_outside.specs.Files.{Keeps};
-ghost use Rattle.hv_words.specs.Commands.{Command};
+ghost use Rattle.hv_words.specs.Commands.{Command, sources_meant};
 ghost use Rattle.hv_cli.specs.declared.read.Role.TheVariants.{Model};
-ghost use Rattle.hv_cli.specs.Files.{IsReadBefore, IsUntouched, name_of, reads, total_of};
-ghost use Rattle.hv_cli.specs.working.Found.{IsFound};
+ghost use Rattle.hv_cli.specs.Files.{Gathers, IsReadBefore, IsUntouched, name_of, reads, total_of};
+ghost use Rattle.hv_cli.specs.working.Found.{AreFound, HasMainFile, IsFound, SaysFault};
 
 use crate::answer::Answer;
-use hv_base::{Memory, Text};
+use hv_base::{Bundle, Memory, Text};
+use hv_gather::{GatherFault, gather};
 use hv_outside::{FileFault, Files, Got};
+use hv_words::Sources;
 use std::alloc::Global;
 
-/// What a file is read for.
+/// What a file that is read alone is for.
 #[derive(Clone, Copy, Debug, PartialEq, Eq)]
 pub enum Role {
     Model,
@@ -24,6 +26,14 @@ pub enum Role {
 pub enum Reading {
     Bytes(Text),
     /// The file can't be used: this answer is due.
+    Refused(Answer),
+}
+
+/// What the gathering of sources gave.
+#[derive(Drop)]
+pub enum Gathering {
+    Bundle(Bundle),
+    /// The sources can't be used: this answer is due.
     Refused(Answer),
 }
 
@@ -82,5 +92,48 @@ fn source_total(role: Role, size: u64) -> u64
     match role {
         Role::Model => 0,
         Role::Main => size,
+    }
+}
+
+/// Reads the main file of these sources with all headers that it may include.
+pub fn read_sources<F: Files>(
+    alloc: Global,
+    files: &mut F,
+    sources: &Sources,
+) -> Result<Gathering, Memory>
+    ensures found { (command : Command)
+        → Gathers (reads (F.state files.old) (F.state files.new)) command
+        (sources_meant sources.now)
+        → IfOk result (AreFound (reads (F.state files.old) (F.state files.new)) command
+        (sources_meant sources.now)) }
+    ensures main { IfOk result HasMainFile }
+    ensures keeps { Keeps (F.state files.old) (F.state files.new) }
+{
+    let main = sources.file.as_str();
+    match gather(alloc, files, main, sources.dirs.as_slice()) {
+        Ok(bundle) => Ok(Gathering::Bundle(bundle)),
+        Err(fault) => Ok(Gathering::Refused(answer_for(alloc, fault, main)?)),
+    }
+}
+
+/// The answer for a fault of gathering, where the main file has this name.
+fn answer_for(alloc: Global, fault: GatherFault, main: &str) -> Result<Answer, Memory>
+    ensures { IfOk result (SaysFault main.now fault) }
+{
+    match fault {
+        GatherFault::Read { name } => Ok(Answer::CannotRead { name }),
+        GatherFault::MainAbsent => Ok(Answer::NoFile {
+            name: Text::from_slice(alloc, main.as_bytes())?,
+        }),
+        GatherFault::TooBig {
+            name,
+            length,
+            total,
+        } => Ok(Answer::TooBig {
+            name,
+            size: length,
+            total,
+        }),
+        GatherFault::Memory => Err(Memory),
     }
 }

@@ -1,7 +1,12 @@
 //! The top call.
 ghost use Rattle.std.specs.Prelude.{◌≡◌, ◌≤◌, Bool, List, ℕ, Option, Some, None, IsTrue, map};
 ghost use Rattle.std.specs.String.{string_bytes};
+ghost use Rattle.hv_base.specs.Bundles.{NamedFiles};
 ghost use Rattle.hv_base.specs.Status.{code_of};
+ghost use Rattle.hv_base.specs.declared.place.Place.{Place};
+ghost use Rattle.hv_base.specs.declared.token.CTok.{CTok};
+ghost use Rattle.hv_base.specs.declared.why.Why.{Why};
+ghost use Rattle.hv_model.specs.Config.{text_of};
 ghost use Rattle.hv_model.specs.declared.faults.ModelFault.{ModelFault};
 ghost use Rattle.hv_model.specs.declared.faults.ModelKind.{ModelKind};
 ghost use Rattle.hv_model.specs.Lines.{Says, fault};
@@ -9,13 +14,18 @@ ghost use Rattle.hv_model.specs.Model.{IsModelOf};
 ghost use Rattle.hv_model.specs.Rule.{Features};
 ghost use Rattle.hv_outside.specs.Files.{Keeps};
 ghost use Rattle.hv_plain.specs.Source.{SourceLine, IsSmallSource};
-ghost use Rattle.hv_words.specs.Commands.{Command, Sources, encode, options};
+ghost use Rattle.hv_plainpp.specs.Reading.{refused};
+ghost use Rattle.hv_print.specs.Shown.{shown};
+ghost use Rattle.hv_variant.specs.Variants.{HasTokens};
+ghost use Rattle.hv_words.specs.Commands.{Command, Sources, command_of, encode, options, variant};
 ghost use Rattle.hv_cli.specs.declared.answer.Answer.{Answer};
-ghost use Rattle.hv_cli.specs.declared.read.Role.{Role};
+ghost use Rattle.hv_cli.specs.declared.position.Position.{Position};
 ghost use Rattle.hv_cli.specs.Definitions.{IsConfig, definitions_of};
-ghost use Rattle.hv_cli.specs.Files.{HasNoFile, IsUntouched, command_of, config_text, reads};
+ghost use Rattle.hv_cli.specs.Due.{variant_of};
+ghost use Rattle.hv_cli.specs.Files.{HasNoFile, IsUntouched, config_text, reads};
 ghost use Rattle.hv_cli.specs.Given.{writes};
-ghost use Rattle.hv_cli.specs.Ends.{Answers, AnswersOrFails, AreRead, Ends, Fails, Headline, IsFirstUnusable, IsGood, IsOrFails, Starves, Succeeds, Unread};
+ghost use Rattle.hv_cli.specs.Ends.{Answers, AnswersOrFails, AreRead, AreTold, Ends, Fails, Headline, IsFirstUnusable, IsGood, IsOrFails, Starves, Succeeds, Unread};
+ghost use Rattle.hv_cli.specs.Positions.{position_of};
 
 use crate::command::answer_to;
 use crate::write::{report_out_of_memory, write_answer};
@@ -26,9 +36,11 @@ use std::alloc::Global;
 /// The program: `words` are its arguments, after its name, and the answer is its status.
 ///
 /// `encode` reads a model file, if one is named, and a source from `files`, and writes the
-/// metaproduct to `out`. `options` reads a model file, if one is named, and writes to `out` a
-/// definition of each option variable, for a given configuration. Every other end has its message
-/// on `err`. `input` is there for the commands that run programs.
+/// metaproduct to `out`. `variant` reads a model file, if one is named, and a source with all its
+/// headers, and writes to `out` the tokens that preprocessing leaves in a given configuration.
+/// `options` reads a model file, if one is named, and writes to `out` a definition of each option
+/// variable, for a given configuration. Every other end has its message on `err`. `input` is there
+/// for the commands that run programs.
 pub fn hercules<F: Files, I: Source, O: Sink, E: Sink>(
     alloc: Global,
     words: &[String],
@@ -52,6 +64,13 @@ pub fn hercules<F: Files, I: Source, O: Sink, E: Sink>(
         (reads (F.state files.old) (F.state files.new))
         (writes (O.state out.old) (O.state out.new) (E.state err.old) (E.state err.new))
         result (Answer.Encoded text) }
+    ensures variant { (sources : Sources) (config : List ℕ)
+        → command_of (map string_bytes words.now) ≡ Some (variant sources config)
+        → result ≡ code_of Status.Done
+        → (text : List ℕ) × Answers (map string_bytes words.now)
+        (reads (F.state files.old) (F.state files.new))
+        (writes (O.state out.old) (O.state out.new) (E.state err.old) (E.state err.new))
+        result (Answer.Variant text) }
     ensures options { (model : Option (List ℕ)) (config : List ℕ)
         → command_of (map string_bytes words.now) ≡ Some (options model config)
         → result ≡ code_of Status.Done
@@ -59,11 +78,12 @@ pub fn hercules<F: Files, I: Source, O: Sink, E: Sink>(
         (reads (F.state files.old) (F.state files.new))
         (writes (O.state out.old) (O.state out.new) (E.state err.old) (E.state err.new))
         result (Answer.Options text) }
-    ensures left_out { result ≡ code_of Status.Refused → (config : List ℕ) × (file : List ℕ)
+    ensures refused { result ≡ code_of Status.Refused
+        → (config : List ℕ) × (position : Position) × (why : Why)
         × Answers (map string_bytes words.now)
         (reads (F.state files.old) (F.state files.new))
         (writes (O.state out.old) (O.state out.new) (E.state err.old) (E.state err.new))
-        result (Answer.LeftOut config file) }
+        result (Answer.Fails config position why) }
     ensures bad_words { command_of (map string_bytes words.now) ≡ None
         → result ≡ code_of Status.BadWords → Answers (map string_bytes words.now)
         (reads (F.state files.old) (F.state files.new))
@@ -113,9 +133,9 @@ pub fn hercules<F: Files, I: Source, O: Sink, E: Sink>(
     ensures err_faults { (E.state err.old).faults ≤ (E.state err.new).faults }
 
     // Where files tell what they hold and none failed, the cause of a status brings it about.
-    ensures unread_where { (command : Command) (role : Role) (blamed : Answer)
+    ensures unread_where { (command : Command) (blamed : Answer)
         → command_of (map string_bytes words.now) ≡ Some command
-        → IsFirstUnusable (reads (F.state files.old) (F.state files.new)) command role blamed
+        → IsFirstUnusable (reads (F.state files.old) (F.state files.new)) command blamed
         → AnswersOrFails (map string_bytes words.now)
         (reads (F.state files.old) (F.state files.new))
         (writes (O.state out.old) (O.state out.new) (E.state err.old) (E.state err.new))
@@ -142,6 +162,31 @@ pub fn hercules<F: Files, I: Source, O: Sink, E: Sink>(
         → IsModelOf model_file model → ((body : List SourceLine)
         → ¬ (IsSmallSource model.names source body))
         → IsOrFails Status.Refused result }
+    ensures variant_where { (sources : Sources) (text model_file source : List ℕ)
+        (model : Features) (values : List Bool) (bundle : NamedFiles) (toks : List CTok)
+        → command_of (map string_bytes words.now) ≡ Some (variant sources text)
+        → AreRead (reads (F.state files.old) (F.state files.new)) (variant sources text) model_file
+        source
+        → AreTold (F.state files.old).held sources bundle
+        → IsModelOf model_file model → IsConfig model text values
+        → HasTokens (variant_of bundle model values) toks
+        → AnswersOrFails (map string_bytes words.now)
+        (reads (F.state files.old) (F.state files.new))
+        (writes (O.state out.old) (O.state out.new) (E.state err.old) (E.state err.new))
+        result (Answer.Variant (shown toks)) }
+    ensures refused_where { (sources : Sources) (text model_file source : List ℕ)
+        (model : Features) (values : List Bool) (bundle : NamedFiles) (place : Place) (why : Why)
+        → command_of (map string_bytes words.now) ≡ Some (variant sources text)
+        → AreRead (reads (F.state files.old) (F.state files.new)) (variant sources text) model_file
+        source
+        → AreTold (F.state files.old).held sources bundle
+        → IsModelOf model_file model → IsConfig model text values
+        → (variant_of bundle model values).ending ≡ refused why place
+        → AnswersOrFails (map string_bytes words.now)
+        (reads (F.state files.old) (F.state files.new))
+        (writes (O.state out.old) (O.state out.new) (E.state err.old) (E.state err.new))
+        result
+        (Answer.Fails (text_of model.names values) (position_of bundle place) why) }
     ensures complete { IsGood (map string_bytes words.now)
         (reads (F.state files.old) (F.state files.new))
         (writes (O.state out.old) (O.state out.new) (E.state err.old) (E.state err.new))

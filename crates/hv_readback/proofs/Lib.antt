@@ -1,5 +1,11 @@
 pub mod ApartLemmas
 pub mod CutLemmas
+pub mod PlacedElements
+pub mod PlacedExpressions
+pub mod PlacedPrograms
+pub mod PlacedScopes
+pub mod PlacedTokens
+pub mod Placing
 pub mod Preprocessed
 pub mod Printed
 pub mod Programs

@@ -1,5 +1,5 @@
 -- What is proved of printed text: that it is read back.
-use Rattle.std.specs.Prelude.{ℕ, Bool, true, false, not, ◌&&◌, List, [], ◌∷◌, map, codes, IsTrue}
+use Rattle.std.specs.Prelude.{◌≡◌, ℕ, Bool, true, false, not, ◌&&◌, List, [], ◌∷◌, map, codes, IsTrue}
 use Rattle.std.specs.List.{All}
 use Rattle.std.specs.Str.{bytes_eq}
 use Rattle.hv_base.specs.Ascii.{is_among}
@@ -13,7 +13,10 @@ use Rattle.hv_grammar.specs.Refusal.{Limits}
 use Rattle.hv_model.specs.Beginning.{predefined}
 use Rattle.hv_print.specs.ProgramTokens.{program_tokens}
 use Rattle.hv_print.specs.Shown.{shown, c_tokens}
-use Rattle.hv_readback.specs.Texts.{IsPreprocessed, IsDerived, IsReadAs}
+use Rattle.hv_grammar.specs.Grammar.{DerivesProgram}
+use Rattle.hv_grammar.specs.Symbols.{Token}
+use Rattle.hv_readback.specs.Places.{AreSameUpToPlaces}
+use Rattle.hv_readback.specs.Texts.{IsPreprocessed, IsDerived, IsReadAs, DerivesUpToPlaces, IsReadInPlace}
 
 -- whether a token is the name of a predefined macro, which preprocessing replaces (6.10.8)
 abbrev pub is_predefined : CTok → Bool
@@ -56,3 +59,21 @@ abbrev pub ProgramsAreReadBack : Type 0
 ProgramsAreReadBack = (limits : Limits) (name : List ℕ) (tokens : List CTok) (program : Program)
     → All (λ token. IsTrue (is_token Allowed token)) tokens → IsDerived limits tokens program
     → IsReadAs limits name (shown (c_tokens (program_tokens program))) program
+
+-- where tokens derive a program, the same tokens at any other places derive it again, up to places
+abbrev pub PlacesChangeNothingElse : Type 0
+PlacesChangeNothingElse = (limits : Limits) (tokens others : List Token) (program : Program)
+    → map (λ t. t.symbol) others ≡ map (λ t. t.symbol) tokens
+    → DerivesProgram limits tokens program → DerivesUpToPlaces limits others program
+
+-- a program that tokens of the profile derive is printed so that its text, read at the places where
+-- the tokens stand in it, is this program again, up to places
+abbrev pub ProgramsAreReadInPlace : Type 0
+ProgramsAreReadInPlace = (limits : Limits) (name : List ℕ) (tokens : List CTok) (program : Program)
+    → All (λ token. IsTrue (is_token Allowed token)) tokens → IsDerived limits tokens program
+    → IsReadInPlace limits name (shown (c_tokens (program_tokens program))) program
+
+-- programs that are the same up to places have the same tokens
+abbrev pub SameProgramsHaveSameTokens : Type 0
+SameProgramsHaveSameTokens = (a b : Program) → AreSameUpToPlaces a b
+    → program_tokens a ≡ program_tokens b

@@ -8,10 +8,11 @@ use Rattle.hv_ctoks.specs.declared.reserved.ReservedNames.TheVariants.{Allowed}
 use Rattle.hv_ctree.specs.tree.Statements.{Program}
 use Rattle.hv_grammar.specs.Grammar.{symbol_of, DerivesProgram}
 use Rattle.hv_grammar.specs.Refusal.{Limits}
-use Rattle.hv_grammar.specs.Symbols.{Token}
+use Rattle.hv_grammar.specs.Symbols.{Token, token_at}
 use Rattle.hv_plainpp.specs.CTokens.{Identity}
 use Rattle.hv_plainpp.specs.Plainpp.{plainpp}
 use Rattle.hv_plainpp.specs.Reading.{Ending, reaches}
+use Rattle.hv_readback.specs.Places.{AreSameUpToPlaces}
 
 -- the bundle whose one file has this name and these bytes
 abbrev pub alone : (name bytes : List ℕ) → NamedFiles
@@ -39,3 +40,21 @@ pub record IsReadAs (limits : Limits) (name bytes : List ℕ) (program : Program
   pub tokens : List CTok
   pub preprocessed : IsPreprocessed name bytes tokens
   pub derived : IsDerived limits tokens program
+
+-- these tokens derive a program that is this one up to places
+pub record DerivesUpToPlaces (limits : Limits) (tokens : List Token) (program : Program) : Type 0
+  where
+    pub read : Program
+    pub derives : DerivesProgram limits tokens read
+    pub same : AreSameUpToPlaces read program
+
+-- the tokens of a text, each at the place where it stands there
+abbrev pub in_place : List (CTok × Identity) → List Token
+in_place unit = map (λ t. token_at t.1.place (symbol_of t.0 false)) unit
+
+-- the text is preprocessed to tokens that, at the places where they stand in it, derive a program
+-- that is this one up to places
+pub record IsReadInPlace (limits : Limits) (name bytes : List ℕ) (program : Program) : Type 0 where
+  pub unit : List (CTok × Identity)
+  pub reached : outcome name bytes ≡ reaches unit
+  pub derived : DerivesUpToPlaces limits (in_place unit) program

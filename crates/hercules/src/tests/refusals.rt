@@ -13,8 +13,7 @@ fn other_arguments_are_refused(rt: HostRuntime) -> Result<(), Fail> {
         &["encode", "-I", "d:", "main.c"],
         &["options", "--model", "m", "main.c"],
         &["options", "--help"],
-        // It isn't built yet.
-        &["variant", "--model", "m", "main.c"],
+        &["variant", "--model", "m"],
     ];
     for texts in commands {
         // The first read would fail, so no file is asked for.

@@ -3,7 +3,7 @@ use Rattle.std.specs.String.{string_bytes}
 use Rattle.hv_base.specs.Status.{code_of}
 use Rattle.hv_cli.specs.Files.{reads}
 use Rattle.hv_cli.specs.Given.{writes}
-use Rattle.hv_cli.proofs.EndsLemmas.{Ends-given, Ends-starved, Headline-of, bad_config-of, bad_config_where-of, bad_model_where-of, bad_words-of, complete-of, complete_options-of, encoded-of, left_out_where-of, options-of, starved-of, unread-of, unread_where-of}
+use Rattle.hv_cli.proofs.EndsLemmas.{Ends-given, Ends-starved, Headline-of, bad_config-of, bad_config_where-of, bad_model_where-of, bad_words-of, complete-of, complete_options-of, encoded-of, left_out_where-of, options-of, starved-of, unread-of, unread_where-of, variant-of, variant_where-of, refused-of, refused_where-of, unwritten-of}
 use Rattle.hv_cli.proofs.top.hercules.Goals as goal
 
 pub returns-in-Err-clause-ends : goal.returns-in-Err-clause-ends
@@ -162,5 +162,60 @@ returns-in-Ok-clause-headline g c =
     writes (g.O.Sink.state c.args.out.now) (g.O.Sink.state c.write_answer.new.out)
     (g.E.Sink.state c.args.err.now) (g.E.Sink.state c.write_answer.new.err) in
     Headline-of words read written c.code.result
+    (Ends-given words read written c.code.result c.in-Ok.answer c.in-Ok.ensures.due
+    (rw (← c.code.ensures) at c.write_answer.ensures.given))
+
+pub returns-in-Ok-clause-variant : goal.returns-in-Ok-clause-variant
+returns-in-Ok-clause-variant g c =
+    let words = map string_bytes c.args.words.now in
+    let read = reads (g.F.Files.state c.args.files.now) (g.F.Files.state c.answer_to.new.files) in
+    let written =
+    writes (g.O.Sink.state c.args.out.now) (g.O.Sink.state c.write_answer.new.out)
+    (g.E.Sink.state c.args.err.now) (g.E.Sink.state c.write_answer.new.err) in
+    variant-of words read written c.code.result
+    (Ends-given words read written c.code.result c.in-Ok.answer c.in-Ok.ensures.due
+    (rw (← c.code.ensures) at c.write_answer.ensures.given))
+
+pub returns-in-Ok-clause-variant_where : goal.returns-in-Ok-clause-variant_where
+returns-in-Ok-clause-variant_where g c =
+    let words = map string_bytes c.args.words.now in
+    let read = reads (g.F.Files.state c.args.files.now) (g.F.Files.state c.answer_to.new.files) in
+    let written =
+    writes (g.O.Sink.state c.args.out.now) (g.O.Sink.state c.write_answer.new.out)
+    (g.E.Sink.state c.args.err.now) (g.E.Sink.state c.write_answer.new.err) in
+    variant_where-of words read written c.code.result
+    (Ends-given words read written c.code.result c.in-Ok.answer c.in-Ok.ensures.due
+    (rw (← c.code.ensures) at c.write_answer.ensures.given))
+
+pub returns-in-Ok-clause-refused_where : goal.returns-in-Ok-clause-refused_where
+returns-in-Ok-clause-refused_where g c =
+    let words = map string_bytes c.args.words.now in
+    let read = reads (g.F.Files.state c.args.files.now) (g.F.Files.state c.answer_to.new.files) in
+    let written =
+    writes (g.O.Sink.state c.args.out.now) (g.O.Sink.state c.write_answer.new.out)
+    (g.E.Sink.state c.args.err.now) (g.E.Sink.state c.write_answer.new.err) in
+    refused_where-of words read written c.code.result
+    (Ends-given words read written c.code.result c.in-Ok.answer c.in-Ok.ensures.due
+    (rw (← c.code.ensures) at c.write_answer.ensures.given))
+
+pub returns-in-Ok-clause-refused : goal.returns-in-Ok-clause-refused
+returns-in-Ok-clause-refused g c =
+    let words = map string_bytes c.args.words.now in
+    let read = reads (g.F.Files.state c.args.files.now) (g.F.Files.state c.answer_to.new.files) in
+    let written =
+    writes (g.O.Sink.state c.args.out.now) (g.O.Sink.state c.write_answer.new.out)
+    (g.E.Sink.state c.args.err.now) (g.E.Sink.state c.write_answer.new.err) in
+    refused-of words read written c.code.result
+    (Ends-given words read written c.code.result c.in-Ok.answer c.in-Ok.ensures.due
+    (rw (← c.code.ensures) at c.write_answer.ensures.given))
+
+pub returns-in-Ok-clause-unwritten : goal.returns-in-Ok-clause-unwritten
+returns-in-Ok-clause-unwritten g c =
+    let words = map string_bytes c.args.words.now in
+    let read = reads (g.F.Files.state c.args.files.now) (g.F.Files.state c.answer_to.new.files) in
+    let written =
+    writes (g.O.Sink.state c.args.out.now) (g.O.Sink.state c.write_answer.new.out)
+    (g.E.Sink.state c.args.err.now) (g.E.Sink.state c.write_answer.new.err) in
+    unwritten-of words read written c.code.result
     (Ends-given words read written c.code.result c.in-Ok.answer c.in-Ok.ensures.due
     (rw (← c.code.ensures) at c.write_answer.ensures.given))

@@ -1,0 +1,105 @@
+use Rattle.std.proofs.Common.{refl, sym, subst}
+use Rattle.std.proofs.lemmas.Result.{err_from_is_err_and}
+use Rattle.hv_cond.specs.Laws.{Keeps-trans}
+use Rattle.hv_macros.specs.Table.{meaning_in}
+use Rattle.hv_plainpp.specs.Files.{Entered}
+use Rattle.hv_plainpp.specs.Groups.{expression_truth}
+use Rattle.hv_preproc.proofs.Asking.{Rises-until, asked_part, entered, expression_comes, nothing_asked, reached_until, truths_come, truths_nowhere}
+use Rattle.hv_preproc.proofs.Came.{came_reads}
+use Rattle.hv_preproc.proofs.Faulting.{stops_passed}
+use Rattle.hv_preproc.proofs.Kept.{IsUnit-kept}
+use Rattle.hv_preproc.proofs.Stopped.{came_stops}
+use Rattle.hv_preproc.specs.working.Keys.{reached}
+use Rattle.hv_preproc.specs.working.Parts.{AreTruths}
+use Rattle.hv_texts.specs.Faces.{HasTooMany}
+use Rattle.hv_texts.specs.Readings.{HasTruth, IsOriginOf}
+use Rattle.hv_texts.specs.declared.came.Truths.{Truths}
+use Rattle.hv_preproc.proofs.open_file.OpenFile.expression.Goals as goal
+
+pub returns-then-is_false-clause-unit : goal.returns-then-is_false-clause-unit
+returns-then-is_false-clause-unit c =
+    IsUnit-kept c.live_in.ensures.keeps c.args.unit.now c.requires.unit
+
+pub returns-then-is_false-clause-read : goal.returns-then-is_false-clause-read
+returns-then-is_false-clause-read c = λ at low high is rises sound.
+    nothing_asked c.args.store.now c.live_in.new.store c.args.unit.now c.args.cond
+    c.in_ok-cond.cond _ at low high c.args.line.now rises c.live_in.ensures.keeps sound
+    c.in_ok-cond.ensures.meaning (c.if-is_false.ensures.falsity.0 refl)
+
+pub returns-then-is_false-clause-truths : goal.returns-then-is_false-clause-truths
+returns-then-is_false-clause-truths c = λ at is.
+    truths_nowhere c.args.store.now c.live_in.new.store c.args.unit.now.live c.args.cond
+    c.in_ok-cond.cond _ c.live_in.ensures.keeps c.requires.unit.live c.in_ok-cond.ensures.node
+    c.in_ok-cond.ensures.meaning (c.if-is_false.ensures.falsity.0 refl)
+
+pub line_truth-requires-clause-table : goal.line_truth-requires-clause-table
+line_truth-requires-clause-table c =
+    (IsUnit-kept c.live_in.ensures.keeps c.args.unit.now c.requires.unit).table
+
+pub line_truth-requires-clause-one_body : goal.line_truth-requires-clause-one_body
+line_truth-requires-clause-one_body c =
+    (IsUnit-kept c.live_in.ensures.keeps c.args.unit.now c.requires.unit).one_body
+
+pub take_in-requires-clause-failing : goal.take_in-requires-clause-failing
+take_in-requires-clause-failing c =
+    (c.in_ok-came.ensures.ends (entered c.args.self.now.origin)
+    (record { file = refl; stack = refl })).divides.nodes.1
+
+pub take_in-requires-clause-unit : goal.take_in-requires-clause-unit
+take_in-requires-clause-unit c =
+    IsUnit-kept (Keeps-trans c.live_in.ensures.keeps c.line_truth.ensures.keeps) c.args.unit.now
+    c.requires.unit
+
+pub returns-clause-read : goal.returns-clause-read
+returns-clause-read c = λ at low high is rises sound.
+    came_reads c.args.store.now c.live_in.new.store c.line_truth.new.store c.take_in.new.store
+    c.args.unit.now c.take_in.new.unit (reached at low) (reached at high) c.args.cond
+    c.in_ok-cond.cond c.in_ok-came.came.good _ c.in_ok-came.came.given c.in_ok-came.came.failing
+    (HasTruth c.line_truth.new.store c.in_ok-came.came.value)
+    (λ macros. expression_truth at macros c.args.hash.now c.args.line.now)
+    c.live_in.ensures.keeps c.line_truth.ensures.keeps c.take_in.ensures.keeps sound
+    (reached_until at low high (Rises-until low high c.args.line.now rises))
+    c.in_ok-cond.ensures.node
+    (asked_part c.args.store.now c.live_in.new.store c.args.unit.now.live c.args.cond
+    c.in_ok-cond.cond (λ macros. expression_truth at macros c.args.hash.now c.args.line.now)
+    c.in_ok-cond.ensures.meaning)
+    (expression_comes c.live_in.new.store c.line_truth.new.store c.args.unit.now.table
+    c.in_ok-cond.cond c.in_ok-came.came.good c.in_ok-came.came.given c.in_ok-came.came.failing
+    c.in_ok-came.came.value at low high c.args.hash.now c.args.line.now rises
+    (c.in_ok-came.ensures.met at is) (c.in_ok-came.ensures.faces at is) c.in_ok-came.ensures.few
+    (c.in_ok-came.ensures.ends at is))
+    c.in_ok-take_in.ensures.taken c.in_ok-take_in.ensures.unit
+
+pub returns-clause-truths : goal.returns-clause-truths
+returns-clause-truths c = λ at is.
+    subst (λ (truths : Truths). AreTruths c.args.store.now c.take_in.new.store
+    c.take_in.new.unit.live c.args.cond truths (λ values. expression_truth at
+    (meaning_in c.args.store.now c.args.unit.now.table values) c.args.hash.now c.args.line.now))
+    (sym c.in_ok-take_in.ensures.value)
+    (truths_come c.args.store.now c.live_in.new.store c.line_truth.new.store c.take_in.new.store
+    c.args.unit.now c.take_in.new.unit c.args.cond c.in_ok-cond.cond c.in_ok-came.came.good
+    c.in_ok-came.came.given c.in_ok-came.came.failing c.in_ok-came.came.value
+    (λ macros. expression_truth at macros c.args.hash.now c.args.line.now)
+    c.live_in.ensures.keeps c.line_truth.ensures.keeps c.take_in.ensures.keeps c.requires.unit
+    c.requires.cond c.in_ok-cond.ensures.node c.in_ok-cond.ensures.meaning
+    (c.in_ok-came.ensures.ends at is) c.in_ok-came.ensures.within
+    c.in_ok-take_in.ensures.taken)
+
+pub returns-in_err-came-clause-stops : goal.returns-in_err-came-clause-stops
+returns-in_err-came-clause-stops c =
+    let p = err_from_is_err_and c.from_residual-in_err-came.result
+    c.from_residual-in_err-came.ensures.1 in
+    rw (p.1, p.2)
+    (stops_passed (λ place conds. (at : Entered) → IsOriginOf c.args.self.now.origin at
+    → HasTooMany c.line_truth.new.store c.in_ok-cond.cond (λ values. expression_truth at
+    (meaning_in c.live_in.new.store c.args.unit.now.table values) c.args.hash.now c.args.line.now)
+    place conds) _ c.in_err-came.field-0.0
+    (λ place conds many at low high is rises.
+    came_stops c.args.store.now c.live_in.new.store c.line_truth.new.store c.args.unit.now
+    (reached at low) c.args.cond c.in_ok-cond.cond _
+    (λ macros. expression_truth at macros c.args.hash.now c.args.line.now) place conds
+    c.live_in.ensures.keeps c.line_truth.ensures.keeps c.requires.unit c.in_ok-cond.ensures.node
+    (asked_part c.args.store.now c.live_in.new.store c.args.unit.now.live c.args.cond
+    c.in_ok-cond.cond (λ macros. expression_truth at macros c.args.hash.now c.args.line.now)
+    c.in_ok-cond.ensures.meaning) (many at is))
+    c.in_err-came.ensures.too_many)

@@ -1,0 +1,9 @@
+use Rattle.hv_preproc.proofs.PageLemmas.{ArePagesFor-next}
+use Rattle.hv_preproc.proofs.page.file_pages.Goals as goal
+
+pub loop-source-preserved : goal.loop-source-preserved
+loop-source-preserved c =
+    ArePagesFor-next c.args.sources.now c.loop-source.pages.items c.push.new.self.items
+    c.loop-source.source-index c.source-item.result c.in_ok-page_for.field-0
+    c.loop-source-test.true c.source-item.is c.loop-source.invariant c.in_ok-page_for.ensures
+    c.in_ok-push.ensures.items

@@ -1,0 +1,3 @@
+-- What is proved of the variant of one configuration.
+mod Alone
+mod Literals

@@ -1,0 +1,3 @@
+-- What the variant of a configuration is.
+pub mod Variants
+pub mod working
