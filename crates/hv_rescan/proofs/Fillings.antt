@@ -3,6 +3,7 @@ use Rattle.std.proofs.Common.{◌≡◌, ℕ, zero, suc, Bool, true, false, List
 use Rattle.std.specs.Prelude.{◌||◌, ◌↔◌, IsTrue}
 use Rattle.std.proofs.lemmas.Bool.Decides.{nat_tests}
 use Rattle.std.proofs.lemmas.List.{map-append}
+use Rattle.std.specs.Option.{option_map}
 use Rattle.hv_toks.specs.Macro.{Macro}
 use Rattle.hv_plain.specs.episode.Bodies.{Operand, Part, expanded, single, joined}
 use Rattle.hv_plain.specs.episode.Substitution.{Scan, Frame, Filled, whole, waits, broken, argument, space_of, stands_for, join, fill, substituted}
@@ -13,7 +14,8 @@ use Rattle.hv_rescan.specs.declared.part.Part.{Part as Part'}
 use Rattle.hv_rescan.specs.declared.part.Part.TheVariants as part'
 use Rattle.hv_rescan.specs.declared.token.Given.{Given}
 use Rattle.hv_rescan.specs.declared.token.Token.{Token as Token'}
-use Rattle.hv_rescan.specs.working.Steps.{placed}
+use Rattle.hv_rescan.specs.working.Steps.{Takes, placed}
+use Rattle.hv_rescan.proofs.Scans.{none_is, taken_is}
 
 pub fill_expanded_none : (f : Frame) (i : ℕ) (space : Bool) (ps : List Part) (owed : Bool)
     (built last : List Token) → argument f.arguments i ≡ []
@@ -85,6 +87,13 @@ first_joined rest left p o e h =
     ap (λ (ps : List Part'). map part_of ps) e
     ∙ ap (λ (q : Part'). part_of q ∷ map part_of left) h
 
+first_expanded : (rest left : List Part') (p : Part') (i : ℕ) (space : Bool)
+    → rest ≡ p ∷ left → p ≡ part'.Expanded i space
+    → map part_of rest ≡ expanded i space ∷ map part_of left
+first_expanded rest left p i space e h =
+    ap (λ (ps : List Part'). map part_of ps) e
+    ∙ ap (λ (q : Part'). part_of q ∷ map part_of left) h
+
 pub tokens-append : (macros : List ℕ → Macro) (xs ys zs : List Token') → zs ≡ xs ++ ys
     → tokens_of macros zs ≡ tokens_of macros xs ++ tokens_of macros ys
 tokens-append macros xs ys zs e =
@@ -125,6 +134,45 @@ owed_never owes owed [] h e = e
 owed_never owes owed (t ∷ ts) h e = e ∙ h
 
 ------ one iteration
+
+-- a parameter whose argument is empty
+pub expanded_none : (macros : List ℕ → Macro) (f : Frame) (rest left : List Part') (p : Part')
+    (i : ℕ) (space owed owes : Bool) (built both last none : List Token) (next : Option Token')
+    (before after : List Token)
+    → rest ≡ p ∷ left → p ≡ part'.Expanded i space → owes ≡ (space || owed)
+    → before ≡ argument f.arguments i → next ≡ None
+    → Takes (option_map (token_of macros) next) before after
+    → both ≡ built ++ last → none ≡ []
+    → fill f (map part_of left) owes both none ≡ fill f (map part_of rest) owed built last
+expanded_none macros f rest left p i space owed owes built both last none next before after r e o a n t b l =
+    ap (λ (w : Bool). fill f (map part_of left) w both none) o
+    ∙ ap (λ (ts : List Token). fill f (map part_of left) (space || owed) ts none) b
+    ∙ ap (fill f (map part_of left) (space || owed) (built ++ last)) l
+    ∙ sym (fill_expanded_none f i space (map part_of left) owed built last
+    (sym a ∙ none_is macros next before after n t))
+    ∙ sym (ap (λ (ps : List Part). fill f ps owed built last)
+    (first_expanded rest left p i space r e))
+
+-- a parameter whose argument has a first token
+pub expanded_some : (macros : List ℕ → Macro) (f : Frame) (rest left : List Part') (p : Part')
+    (i : ℕ) (space owed owes : Bool) (built both last : List Token) (next : Option Token')
+    (first : Token') (before after : List Token)
+    → rest ≡ p ∷ left → p ≡ part'.Expanded i space → owes ≡ (space || owed)
+    → before ≡ argument f.arguments i → next ≡ Some first
+    → Takes (option_map (token_of macros) next) before after
+    → both ≡ built ++ last
+    → waits (token_of macros first) after
+    (record f { rest = map part_of left; built = both; owed = owes })
+    ≡ fill f (map part_of rest) owed built last
+expanded_some macros f rest left p i space owed owes built both last next first before after r e o a n t b =
+    let u : Token = token_of macros first in
+    ap (λ (w : Bool). waits u after (record f { rest = map part_of left; built = both; owed = w })) o
+    ∙ ap (λ (ts : List Token). waits u after
+    (record f { rest = map part_of left; built = ts; owed = space || owed })) b
+    ∙ sym (fill_expanded_some f i space (map part_of left) owed built last u after
+    (sym a ∙ sym (taken_is macros next first before after n t)))
+    ∙ sym (ap (λ (ps : List Part). fill f ps owed built last)
+    (first_expanded rest left p i space r e))
 
 pub steps_single : (f : Frame) (o : Operand) (ps : List Part) (owed owes still : Bool)
     (built last tokens both : List Token) → owes ≡ (space_of o || owed)

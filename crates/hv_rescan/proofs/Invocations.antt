@@ -1,6 +1,5 @@
 -- What an invocation comes to, by what is taken after the name.
 use Rattle.std.proofs.Common.{◌≡◌, ◌≤◌, ◌+◌, ℕ, Bool, true, false, List, [], ◌++◌, Option, Some, None, refl, sym, ap, ◌∙◌, arith, length, length-append}
-use Rattle.std.specs.Global.{Vec}
 use Rattle.std.specs.Prelude.{min}
 use Rattle.hv_base.proofs.Lists.{length-map}
 use Rattle.hv_base.specs.declared.why.Why.{Why}
@@ -91,11 +90,11 @@ unread_left macros front rest u₀ u₁ f₁ h k m =
 ------ object-like macros
 
 pub object_used : (macros : List ℕ → Macro) (ends : RunEnd) (t : Token) (s : Scan)
-    (fs : List Frame) (body : Body) (replacement : List PpTok) (arguments : List (Vec Token'))
+    (fs : List Frame) (body : Body) (replacement : List PpTok) (arguments : List (List Token'))
     (hides : List (List ℕ)) → body ≡ Object replacement → arguments ≡ [] → hides ≡ t.hides
     → begin t s fs body (arguments_of macros arguments) hides ≡ used ends t s fs body
 object_used macros ends t s fs body replacement arguments hides e h k =
-    ap (λ (xs : List (Vec Token')). begin t s fs body (arguments_of macros xs) hides) h
+    ap (λ (xs : List (List Token')). begin t s fs body (arguments_of macros xs) hides) h
     ∙ ap (begin t s fs body []) k
     ∙ ap (λ (b : Body). begin t s fs b [] t.hides) e
     ∙ sym (ap (used ends t s fs) e)

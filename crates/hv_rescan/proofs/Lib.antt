@@ -6,5 +6,6 @@ mod Parts
 mod Questions
 mod Runs
 mod Scans
+mod Sharing
 mod Texts
 mod Tokens

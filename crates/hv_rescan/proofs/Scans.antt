@@ -1,10 +1,15 @@
 -- What one step of rescanning is, by what is left.
-use Rattle.std.proofs.Common.{◌≡◌, ◌<◌, ◌≤◌, ℕ, Bool, true, false, List, [], ◌∷◌, ◌++◌, refl, sym, ap, ◌∙◌, arith, length, length-append}
+use Rattle.std.proofs.Common.{◌≡◌, ◌<◌, ◌≤◌, ℕ, Bool, true, false, List, [], ◌∷◌, ◌++◌, Option, Some, None, refl, sym, ap, ◌∙◌, arith, length, length-append}
+use Rattle.std.specs.Option.{option_map}
 use Rattle.std.proofs.lemmas.Bool.{lt-leb, le-leb}
 use Rattle.hv_base.specs.declared.why.Why.TheVariants.{BadPaste}
 use Rattle.hv_plain.specs.episode.Expansion.{State, at, done, refused, first_of_text, alone, settle}
 use Rattle.hv_plain.specs.episode.Substitution.{Scan, Frame, Filled, whole, waits, broken, resume}
 use Rattle.hv_plain.specs.episode.Tokens.{Token}
+use Rattle.hv_toks.specs.Macro.{Macro}
+use Rattle.hv_rescan.specs.Values.{token_of}
+use Rattle.hv_rescan.specs.declared.token.Token.{Token as Token'}
+use Rattle.hv_rescan.specs.working.Steps.{Takes}
 
 abbrev pub scanned : List Token → ℕ → List Token → Scan
 scanned ahead unread given = record { ahead = ahead; unread = unread; given = given }
@@ -66,3 +71,19 @@ resumes f fs unread given x e =
     first_ends unread given (f ∷ fs) _
     ∙ went_as fs (resume f given)
     ∙ ap (went fs) (sym e)
+
+------ the token that is taken off a text
+
+pub taken_is : (macros : List ℕ → Macro) (o : Option Token') (t : Token') (before after : List Token)
+    → o ≡ Some t → Takes (option_map (token_of macros) o) before after
+    → token_of macros t ∷ after ≡ before
+taken_is macros None t before after e h = let f : None ≡ Some t = e in absurd (cc)
+taken_is macros (Some u) t before after e h =
+    let f : Some u ≡ Some t = e in
+    let g : u ≡ t = cc in
+    ap (λ (v : Token'). token_of macros v ∷ after) (sym g) ∙ sym h
+
+pub none_is : (macros : List ℕ → Macro) (o : Option Token') (before after : List Token)
+    → o ≡ None → Takes (option_map (token_of macros) o) before after → before ≡ []
+none_is macros (Some t) before after e h = let f : Some t ≡ None = e in absurd (cc)
+none_is macros None before after e h = h.0

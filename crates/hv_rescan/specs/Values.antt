@@ -1,6 +1,6 @@
 -- What the values of the code stand for under a macro state, which says what each name means.
 use Rattle.std.specs.Prelude.{ℕ, List, [], ◌∷◌, ◌++◌, map, drop, length, Option, Some, None}
-use Rattle.std.specs.Global.{Global, Vec}
+use Rattle.std.specs.Global.{Global}
 use Rattle.std.specs.declared.rc.Rc.{Rc}
 use Rattle.hv_toks.specs.Macro.{Macro}
 use Rattle.hv_toks.specs.declared.token.PpTok.{PpTok}
@@ -111,8 +111,8 @@ scan_of macros run s = record {
 }
 
 -- the arguments of an invocation, in order
-abbrev pub arguments_of : (macros : List ℕ → Macro) → List (Vec Token') → List (List Token)
-arguments_of macros arguments = map (λ (a : Vec Token'). tokens_of macros a.items) arguments
+abbrev pub arguments_of : (macros : List ℕ → Macro) → List (List Token') → List (List Token)
+arguments_of macros arguments = map (tokens_of macros) arguments
 
 -- a substitution that waits for the expansion of an argument
 abbrev pub frame_of : (macros : List ℕ → Macro) → (run : List PpTok) → Frame' → Frame

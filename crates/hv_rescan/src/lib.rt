@@ -4,12 +4,14 @@
 mod arguments;
 mod deeds;
 mod draft;
+mod front;
 mod hides;
 mod machine;
 mod part;
 mod paste;
 mod pending;
 mod scan;
+mod shared;
 mod spelling;
 mod start;
 mod states;

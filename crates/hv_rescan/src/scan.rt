@@ -7,8 +7,10 @@ ghost use Rattle.hv_plain.specs.episode.Expansion.{alone};
 ghost use Rattle.hv_rescan.specs.Values.{scan_of, token_of, tokens_of, unread_of};
 ghost use Rattle.hv_rescan.specs.working.Steps.{Fewer, Takes, ahead_of, owing_in};
 
+use crate::front::Front;
 use crate::hides::Hides;
 use crate::part::Part;
+use crate::shared::Tokens;
 use crate::token::{Given, Token, source_token};
 use hv_base::{List, Memory, Stack, Why};
 use hv_toks::PpTok;
@@ -27,7 +29,7 @@ pub struct Unread {
 #[derive(Debug, Drop)]
 pub struct Scan {
     /// The tokens that stand next, before those of the run.
-    pub(crate) front: Stack<Token>,
+    pub(crate) front: Front,
     /// What follows of the run; an argument that is expanded by itself has nothing of it.
     pub(crate) unread: Option<Unread>,
     pub(crate) given: List<Given>,
@@ -38,7 +40,7 @@ pub struct Scan {
 pub struct Frame {
     /// The text around, from after the invocation on.
     pub(crate) around: Scan,
-    pub(crate) arguments: Vec<Vec<Token>>,
+    pub(crate) arguments: Vec<Tokens>,
     /// The parts after the parameter.
     pub(crate) rest: Stack<Part>,
     /// What stands for the parts before it.
@@ -97,7 +99,7 @@ fn take_unread(
 pub(crate) fn take(
     alloc: Global,
     run: &[PpTok],
-    front: &mut Stack<Token>,
+    front: &mut Front,
     unread: &mut Option<Unread>,
 ) -> Result<Option<Token>, Memory>
     ensures takes { IfOk result (λ taken. (macros : List ℕ → Macro) → Takes
@@ -111,7 +113,8 @@ pub(crate) fn take(
         (length front.old + length (unread_of run.now unread.old))
         (length front.new + length (unread_of run.now unread.new))) }
 {
-    if let Some(token) = front.pop() {
+    let own = front.pop(alloc)?;
+    if let Some(token) = own {
         return Ok(Some(token));
     }
     let taken = take_unread(alloc, run, unread)?;
@@ -120,7 +123,7 @@ pub(crate) fn take(
 
 impl Scan {
     /// A text to be scanned by itself (ISO/IEC 9899:1999, 6.10.3.1).
-    pub(crate) fn alone(alloc: Global, front: Stack<Token>) -> Scan
+    pub(crate) fn alone(alloc: Global, front: Front) -> Scan
         ensures { (macros : List ℕ → Macro) (run : List PpTok')
             → scan_of macros run result ≡ alone (tokens_of macros front) }
     {
@@ -132,11 +135,11 @@ impl Scan {
     }
 
     /// The first token that is left stands after white space where this is so, too.
-    pub(crate) fn owe(&mut self, owed: bool) -> Result<(), Memory>
+    pub(crate) fn owe(&mut self, alloc: Global, owed: bool) -> Result<(), Memory>
         ensures { OnOk result ((macros : List ℕ → Macro) (run : List PpTok')
             → scan_of macros run self.new ≡ owing_in owed (scan_of macros run self.old)) }
     {
-        if let Some(mut token) = self.front.pop() {
+        if let Some(mut token) = self.front.pop(alloc)? {
             token.space = token.space || owed;
             return self.front.push(token);
         }

@@ -7,6 +7,7 @@ ghost use Rattle.hv_plain.specs.episode.Tokens.{source_token};
 ghost use Rattle.hv_toks.specs.declared.token.PpTok.{PpTok as PpTok'};
 ghost use Rattle.hv_rescan.specs.working.Steps.{question_of};
 
+use crate::front::Front;
 use crate::hides::Hides;
 use crate::scan::{Scan, State, Unread};
 use crate::spelling::{Digit, Spelling};
@@ -116,7 +117,7 @@ pub(crate) fn start_line(alloc: Global, run: &[PpTok]) -> Result<State, Memory>
         front.push(token)?;
     }
     let first = front.pop();
-    let text = Scan::alone(alloc, front);
+    let text = Scan::alone(alloc, Front::of_own(front));
     match first {
         None => Ok(State::Done { text }),
         Some(token) => Ok(State::At {
@@ -137,7 +138,7 @@ pub(crate) fn start_text(alloc: Global, run: &[PpTok], at: usize) -> Result<Stat
     Ok(State::At {
         token: source_token(alloc, &run[at])?,
         text: Scan {
-            front: Stack::new(alloc),
+            front: Front::of_own(Stack::new(alloc)),
             unread: Some(Unread {
                 next: at + 1,
                 owed: false,

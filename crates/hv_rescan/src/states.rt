@@ -10,6 +10,7 @@ ghost use Rattle.hv_rescan.specs.Values.{arguments_of, frames_of, given_of, hide
 ghost use Rattle.hv_rescan.specs.working.Steps.{mark_of};
 
 use crate::arguments::{Mark, Taken, mark_in, take_arguments, takes};
+use crate::front::Front;
 use crate::hides::Hides;
 use crate::part::parts;
 use crate::pending::Following;
@@ -41,7 +42,8 @@ pub(crate) fn settle(
         ≡ expansion.settle (frames_of macros run frames) (scan_of macros run text)) }
 {
     loop {
-        if let Some(token) = text.front.pop() {
+        let next = text.front.pop(alloc)?;
+        if let Some(token) = next {
             return Ok(State::At {
                 token,
                 text,
@@ -57,7 +59,7 @@ pub(crate) fn settle(
                 frames.push(frame)?;
                 return Ok(State::At {
                     token: first,
-                    text: Scan::alone(alloc, more),
+                    text: Scan::alone(alloc, Front::of_shared(alloc, more)),
                     frames,
                 });
             }
@@ -93,7 +95,11 @@ fn begin(
         hides,
         space: name.space,
     })?;
-    settle(alloc, Scan::alone(alloc, Stack::new(alloc)), frames)
+    settle(
+        alloc,
+        Scan::alone(alloc, Front::of_own(Stack::new(alloc))),
+        frames,
+    )
 }
 
 /// Why an invocation whose text ends before the `)` is refused.

@@ -13,9 +13,10 @@ use crate::hides::Hides;
 use crate::part::{Operand, Part};
 use crate::paste::{join, string_token};
 use crate::scan::{Frame, Scan};
+use crate::shared::Tokens;
 use crate::spelling::Spelling;
-use crate::token::{Given, Token, ahead, copies, put_front, regained, space_first};
-use hv_base::{List, Memory, Stack};
+use crate::token::{Given, Token, copies, put_front, regained, space_first};
+use hv_base::{List, Memory};
 use std::alloc::Global;
 
 /// A substitution that goes on until it is whole, waits for the expansion of an argument, or has a
@@ -25,7 +26,7 @@ pub(crate) enum Filled {
     Whole(Scan),
     Waits {
         first: Token,
-        more: Stack<Token>,
+        more: Tokens,
         frame: Frame,
     },
     Broken,
@@ -45,7 +46,7 @@ fn space_of(operand: &Operand) -> bool
 /// The tokens that stand for an operand, the first one after white space exactly where this is so.
 fn stands_for(
     alloc: Global,
-    arguments: &[Vec<Token>],
+    arguments: &[Tokens],
     space: bool,
     operand: Operand,
 ) -> Result<Vec<Token>, Memory>
@@ -54,7 +55,8 @@ fn stands_for(
 {
     match operand {
         Operand::Parameter { index, .. } => {
-            let mut tokens = copies(alloc, argument(arguments, index))?;
+            let argument = argument(arguments, index)?;
+            let mut tokens = copies(alloc, argument.as_slice())?;
             space_first(&mut tokens, space);
             Ok(tokens)
         }
@@ -69,8 +71,9 @@ fn stands_for(
             Ok(tokens)
         }
         Operand::Str { index, .. } => {
+            let argument = argument(arguments, index)?;
             let mut tokens = Vec::new(alloc);
-            tokens.push(string_token(alloc, argument(arguments, index), space)?)?;
+            tokens.push(string_token(alloc, argument.as_slice(), space)?)?;
             Ok(tokens)
         }
     }
@@ -89,7 +92,7 @@ fn substituted(
         (tokens_of macros tokens.items) (hides_of hides.now) space) }
 {
     if tokens.is_empty() {
-        around.owe(space)?;
+        around.owe(alloc, space)?;
         return Ok(around);
     }
     space_first(&mut tokens, space);
@@ -121,8 +124,9 @@ pub(crate) fn fill(alloc: Global, frame: Frame, mut last: Vec<Token>) -> Result<
             Part::Expanded { index, space: own } => {
                 owed = own || owed;
                 built.append(&mut last)?;
-                let mut more = ahead(alloc, argument(&arguments, index))?;
-                if let Some(first) = more.pop() {
+                let mut more = argument(&arguments, index)?;
+                let next = more.pop(alloc)?;
+                if let Some(first) = next {
                     let frame = Frame {
                         around,
                         arguments,

@@ -4,9 +4,10 @@ ghost use Rattle.hv_toks.specs.Macro.{Macro};
 ghost use Rattle.hv_plain.specs.episode.Tokens.{body_token, hiding, owing, source_token, spaced};
 ghost use Rattle.hv_rescan.specs.Values.{givens_of, hides_of, token_of, tokens_of};
 
+use crate::front::Front;
 use crate::hides::Hides;
 use crate::spelling::Spelling;
-use hv_base::{List, Memory, Stack, Text};
+use hv_base::{List, Memory, Text};
 use hv_toks::{PpKind, PpTok};
 use std::alloc::Global;
 use std::rc::Rc;
@@ -58,20 +59,6 @@ pub(crate) fn source_token(alloc: Global, token: &PpTok) -> Result<Token, Memory
     })
 }
 
-/// Copies of tokens, as what stands next.
-pub(crate) fn ahead(alloc: Global, tokens: &[Token]) -> Result<Stack<Token>, Memory>
-    ensures { IfOk result (λ ahead. (macros : List ℕ → Macro)
-        → tokens_of macros ahead ≡ tokens_of macros tokens.now) }
-{
-    let mut ahead = Stack::new(alloc);
-    let mut left = tokens.len();
-    while left > 0 {
-        left -= 1;
-        ahead.push(tokens[left].copy(alloc)?)?;
-    }
-    Ok(ahead)
-}
-
 /// Copies of tokens.
 pub(crate) fn copies(alloc: Global, tokens: &[Token]) -> Result<Vec<Token>, Memory>
     ensures { IfOk result (λ copies. (macros : List ℕ → Macro)
@@ -97,7 +84,7 @@ pub(crate) fn space_first(tokens: &mut Vec<Token>, space: bool)
 /// Puts tokens, which hide these names too, before others.
 pub(crate) fn put_front(
     alloc: Global,
-    front: &mut Stack<Token>,
+    front: &mut Front,
     mut tokens: Vec<Token>,
     hides: &Hides,
 ) -> Result<(), Memory>

@@ -1,17 +1,19 @@
 -- What the values of private functions stand for.
-use Rattle.std.specs.Prelude.{ℕ, ◌≡◌, ◌<◌, ◌≤◌, ◌+◌, Bool, true, false, not, List, [], ◌∷◌, ◌++◌, filter, codes, Option, Some, None}
+use Rattle.std.specs.Prelude.{ℕ, ◌≡◌, ◌<◌, ◌≤◌, ◌+◌, Bool, true, false, not, List, [], ◌∷◌, ◌++◌, filter, codes, drop, length, Option, Some, None}
 use Rattle.std.specs.Global.{Vec}
 use Rattle.hv_base.specs.Ascii.{is_among}
 use Rattle.hv_toks.specs.Macro.{Macro}
+use Rattle.hv_toks.specs.declared.macros.Body.{Body}
 use Rattle.hv_toks.specs.declared.token.PpKind.{PpKind}
 use Rattle.hv_toks.specs.declared.token.PpKind.TheVariants.{Identifier, Number, CharConstant, StringLiteral, HeaderName, Punctuator, Other}
 use Rattle.hv_toks.specs.declared.token.PpTok.{PpTok}
 use Rattle.hv_plain.specs.episode.Bodies.{Before, nothing, a_part, a_paste, quoted_index}
 use Rattle.hv_plain.specs.episode.Episode.{Question}
-use Rattle.hv_plain.specs.episode.Invocation.{Mark, opening, closing, comma, none, Taken}
+use Rattle.hv_plain.specs.episode.Invocation.{Mark, opening, closing, comma, none, Taken, take_arguments}
 use Rattle.hv_plain.specs.episode.Substitution.{Scan, Filled, whole, waits, broken, blank, quoted}
 use Rattle.hv_plain.specs.episode.Tokens.{Token, owing, hiding, spaced}
 use Rattle.hv_rescan.specs.Values.{arguments_of, frame_of, hides_of, scan_of, token_of, tokens_of, unread_of}
+use Rattle.hv_rescan.specs.declared.arguments.Found.{Found as Found'}
 use Rattle.hv_rescan.specs.declared.arguments.Mark.{Mark as Mark'}
 use Rattle.hv_rescan.specs.declared.arguments.Mark.TheVariants as mark'
 use Rattle.hv_rescan.specs.declared.arguments.Taken.{Taken as Taken'}
@@ -115,6 +117,23 @@ taken_of macros (Some t) after = Some (record {
   hides = hides_of t.hides;
   after = after;
 })
+
+-- where arguments are taken of the tokens that stand next, they are those of the invocation, whatever
+-- stands after these tokens
+abbrev pub FindsArguments : Body → Option Taken' → (before after : List Token') → Type 0
+FindsArguments body None before after = after ≡ before
+FindsArguments body (Some t) before after = (length after ≤ length before)
+    × ((macros : List ℕ → Macro) (rest : List Token)
+    → taken_of macros (Some t) (tokens_of macros after ++ rest)
+    ≡ take_arguments body 0 [] [] (tokens_of macros before ++ rest))
+
+-- the same where they are found, and not yet taken
+abbrev pub IsFound : Body → Option Found' → List Token' → Type 0
+IsFound body None tokens = Unit {0}
+IsFound body (Some f) tokens = (f.length ≤ length tokens)
+    × ((macros : List ℕ → Macro) (rest : List Token)
+    → taken_of macros (Some f.taken) (tokens_of macros (drop f.length tokens) ++ rest)
+    ≡ take_arguments body 0 [] [] (tokens_of macros tokens ++ rest))
 
 ------ substitution
 

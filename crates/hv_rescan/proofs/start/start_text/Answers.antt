@@ -15,7 +15,7 @@ returns c macros =
     let rest : List Token = owing false (map source_token (drop (c.args.at + 1) run)) in
     let t : Token = token_of macros c.in_ok-source_token.field-0 in
     ap (λ (front : List Token'). at t (scanned (tokens_of macros front ++ rest) (length rest)
-    (givens_of c.new-2.result)) (frames_of macros run c.new-3.result)) c.new.ensures
+    (givens_of c.new-2.result)) (frames_of macros run c.new-3.result)) (c.of_own.ensures ∙ c.new.ensures)
     ∙ ap (λ (given : List Given). at t (scanned rest (length rest) (givens_of given))
     (frames_of macros run c.new-3.result)) c.new-2.ensures
     ∙ ap (λ (frames : List Frame'). at t (scanned rest (length rest) [])

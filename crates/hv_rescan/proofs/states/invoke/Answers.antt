@@ -1,5 +1,4 @@
 use Rattle.std.proofs.Common.{ℕ, List, Option, length, sym, ap, ◌∙◌}
-use Rattle.std.specs.Global.{Vec}
 use Rattle.hv_plain.specs.episode.Expansion.{begin, left_after}
 use Rattle.hv_plain.specs.episode.Invocation.{Taken, takes}
 use Rattle.hv_plain.specs.episode.Tokens.{both}
@@ -37,7 +36,7 @@ returns-then-not-takes c macros t e f g =
     (ap (λ (o : Option Taken'). taken_of macros o after) (sym c.in-Some.is)
     ∙ taken_after macros c.args.body.now c.in_ok-taken.taken _ s.ahead _ after
     (c.in_ok-taken.ensures.taken macros) (c.in_ok-_opening.ensures.takes macros))
-    (c.takes.ensures macros ∙ ap (λ (xs : List (Vec Token')). takes c.args.body.now (arguments_of macros xs)) c.deref.ensures.value) c.if-not-takes.true
+    (c.takes.ensures macros ∙ ap (λ (xs : List (List Token')). takes c.args.body.now (arguments_of macros xs)) c.deref.ensures.value) c.if-not-takes.true
 
 pub returns : goal.returns
 returns c macros t e f g =
@@ -66,4 +65,4 @@ returns c macros t e f g =
     (ap (λ (o : Option Taken'). taken_of macros o after) (sym c.in-Some.is)
     ∙ taken_after macros body c.in_ok-taken.taken _ s.ahead _ after
     (c.in_ok-taken.ensures.taken macros) (c.in_ok-_opening.ensures.takes macros))
-    (c.takes.ensures macros ∙ ap (λ (xs : List (Vec Token')). takes c.args.body.now (arguments_of macros xs)) c.deref.ensures.value) c.if-not-takes.false
+    (c.takes.ensures macros ∙ ap (λ (xs : List (List Token')). takes c.args.body.now (arguments_of macros xs)) c.deref.ensures.value) c.if-not-takes.false

@@ -1,16 +1,15 @@
 use Rattle.std.proofs.Common.{◌≡◌, ◌||◌, Bool, true, false, List, map, sym, ap, ◌∙◌, arith}
-use Rattle.std.specs.Global.{Vec}
 use Rattle.hv_plain.specs.episode.Bodies.{Part}
-use Rattle.hv_plain.specs.episode.Substitution.{fill, space_of, stands_for, whole}
+use Rattle.hv_plain.specs.episode.Substitution.{argument, fill, space_of, stands_for, whole}
 use Rattle.hv_plain.specs.episode.Tokens.{Token, still_owed}
-use Rattle.hv_rescan.proofs.Fillings.{first_joined, first_single, owed_never, owed_where_empty, owes_not, owes_or, placed_is, steps_joined, steps_single, tokens-append}
+use Rattle.hv_rescan.proofs.Fillings.{expanded_none, expanded_some, first_joined, first_single, owed_never, owed_where_empty, owes_not, owes_or, placed_is, steps_joined, steps_single, tokens-append}
 use Rattle.hv_rescan.specs.Values.{arguments_of, frame_of, operand_of, part_of, tokens_of}
 use Rattle.hv_rescan.specs.declared.part.Operand.{Operand as Operand'}
 use Rattle.hv_rescan.specs.declared.part.Part.{Part as Part'}
 use Rattle.hv_rescan.specs.declared.part.Part.TheVariants as part'
 use Rattle.hv_rescan.specs.declared.token.Token.{Token as Token'}
 use Rattle.hv_rescan.specs.working.Steps.{joined_of, placed}
-use Rattle.hv_rescan.proofs.substitution.fill.Goals.{in-Single, in-Joined, then-space_of, else-space_of, then-owes, else-owes}
+use Rattle.hv_rescan.proofs.substitution.fill.Goals.{in-Single, in-Joined, then-own, else-own, then-space_of, else-space_of, then-owes, else-owes}
 use Rattle.hv_rescan.proofs.substitution.fill.Goals as goal
 
 abbrev Which : Type 0
@@ -52,7 +51,7 @@ loop-part-preserved-then-joins c macros run =
     let tokens : tokens_of macros c.in_ok-tokens.tokens.items
     ≡ stands_for f.arguments c.if-space_of.owes (operand_of x.0) =
     c.in_ok-tokens.ensures macros
-    ∙ ap (λ (vs : List (Vec Token')).
+    ∙ ap (λ (vs : List (List Token')).
     stands_for (arguments_of macros vs) c.if-space_of.owes (operand_of x.0))
     c.deref-in-Some.ensures.value in
     steps_joined f (operand_of x.0) (map part_of c.pop.new.self) c.loop-part.owed
@@ -91,7 +90,7 @@ loop-part-preserved c macros run =
     let tokens : tokens_of macros c.in_ok-tokens.tokens.items
     ≡ stands_for f.arguments c.if-space_of.owes (operand_of x.0) =
     c.in_ok-tokens.ensures macros
-    ∙ ap (λ (vs : List (Vec Token')).
+    ∙ ap (λ (vs : List (List Token')).
     stands_for (arguments_of macros vs) c.if-space_of.owes (operand_of x.0))
     c.deref-in-Some.ensures.value in
     steps_single f (operand_of x.0) (map part_of c.pop.new.self) c.loop-part.owed
@@ -115,4 +114,47 @@ returns c macros run =
     ∙ ap (λ (ps : List Part'). fill f (map part_of ps) c.loop-part.owed
     (tokens_of macros c.loop-part.built.items) (tokens_of macros c.loop-part.last.items))
     (sym c.in_default.ensures.none.0)
+    ∙ c.loop-part.invariant macros run
+
+pub loop-part-preserved-in-Expanded : goal.loop-part-preserved-in-Expanded
+loop-part-preserved-in-Expanded c macros run =
+    let owes : c.if-own.owed ≡ (c.in-Expanded.own || c.loop-part.owed) =
+    elim c.if-own.branch [
+      | then-own w ↦ owes_or _ _ _ w.if-own.true (w.owed-is ∙ w.if-own.true)
+      | else-own w ↦ owes_not _ _ _ w.if-own.false w.owed-is
+    ] in
+    expanded_none macros (frame_of macros run c.args.frame) c.loop-part.rest c.pop.new.self
+    c.in-Some.part c.in-Expanded.index c.in-Expanded.own c.loop-part.owed c.if-own.owed
+    (tokens_of macros c.loop-part.built.items) (tokens_of macros c.append.new.self.items)
+    (tokens_of macros c.loop-part.last.items) (tokens_of macros c.append.new.other.items)
+    c.in_ok-next-in-Expanded.next (tokens_of macros c.in_ok-more-in-Expanded.more)
+    (tokens_of macros c.pop-in-Expanded.new.self)
+    c.in-Some.ensures.some c.in-Expanded.is owes
+    (c.in_ok-more-in-Expanded.ensures macros
+    ∙ ap (λ (vs : List (List Token')). argument (arguments_of macros vs) c.in-Expanded.index)
+    c.deref.ensures.value)
+    c.in_default-next.is (c.in_ok-next-in-Expanded.ensures macros)
+    (tokens-append macros _ _ _ c.in_ok-append-in-Expanded.ensures.items)
+    (ap (tokens_of macros) c.in_ok-append-in-Expanded.ensures.other_items)
+    ∙ c.loop-part.invariant macros run
+
+pub returns-in-Some-next : goal.returns-in-Some-next
+returns-in-Some-next c macros run =
+    let owes : c.if-own.owed ≡ (c.in-Expanded.own || c.loop-part.owed) =
+    elim c.if-own.branch [
+      | then-own w ↦ owes_or _ _ _ w.if-own.true (w.owed-is ∙ w.if-own.true)
+      | else-own w ↦ owes_not _ _ _ w.if-own.false w.owed-is
+    ] in
+    expanded_some macros (frame_of macros run c.args.frame) c.loop-part.rest c.pop.new.self
+    c.in-Some.part c.in-Expanded.index c.in-Expanded.own c.loop-part.owed c.if-own.owed
+    (tokens_of macros c.loop-part.built.items) (tokens_of macros c.append.new.self.items)
+    (tokens_of macros c.loop-part.last.items)
+    c.in_ok-next-in-Expanded.next c.in-Some-next.first
+    (tokens_of macros c.in_ok-more-in-Expanded.more) (tokens_of macros c.pop-in-Expanded.new.self)
+    c.in-Some.ensures.some c.in-Expanded.is owes
+    (c.in_ok-more-in-Expanded.ensures macros
+    ∙ ap (λ (vs : List (List Token')). argument (arguments_of macros vs) c.in-Expanded.index)
+    c.deref.ensures.value)
+    c.in-Some-next.is (c.in_ok-next-in-Expanded.ensures macros)
+    (tokens-append macros _ _ _ c.in_ok-append-in-Expanded.ensures.items)
     ∙ c.loop-part.invariant macros run

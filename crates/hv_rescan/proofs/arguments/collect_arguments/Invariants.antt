@@ -4,7 +4,7 @@ use Rattle.hv_toks.specs.Macro.{Macro}
 use Rattle.hv_plain.specs.episode.Invocation.{take_arguments}
 use Rattle.hv_rescan.specs.Values.{arguments_of, tokens_of, unread_of}
 use Rattle.hv_rescan.specs.working.Steps.{ahead_of}
-use Rattle.hv_rescan.proofs.arguments.take_arguments.Given as goal
+use Rattle.hv_rescan.proofs.arguments.collect_arguments.Given as goal
 
 abbrev pub invariant-loop-arguments : goal.invariant-loop-arguments
 invariant-loop-arguments l = record {

@@ -1,7 +1,7 @@
 use Rattle.hv_rescan.proofs.ArgumentLists.{none_left}
 use Rattle.hv_rescan.specs.Values.{unread_of}
 use Rattle.hv_rescan.specs.working.Drafts.{nothing}
-use Rattle.hv_rescan.proofs.arguments.take_arguments.Goals as goal
+use Rattle.hv_rescan.proofs.arguments.collect_arguments.Goals as goal
 
 pub returns-clause-left : goal.returns-clause-left
 returns-clause-left c =
