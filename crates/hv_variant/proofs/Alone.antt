@@ -154,7 +154,7 @@ pub alone_is_left : (diagram : Diagram) (values : List Bool) (plain : Plain) (va
     → HasTokens (plain values) toks
 alone_is_left diagram values plain valid parted none all only sorts toks are =
     let left = sorts.right values all
-        (good_alone diagram valid parted.good values only (rw none at sorts.divides)) in
+    (good_alone diagram valid parted.good values only (rw none at sorts.divides)) in
     (left.0, left.1, are ∙ projected_are diagram parted.value values left.0 left.2)
 
 -- a store that grows keeps that a condition is of one configuration alone
@@ -188,9 +188,12 @@ one_face plain diagram valid place (c ∷ d ∷ configs) values all only many =
 
     same : (c d : Config) → IsMetIn plain diagram valid place c → IsMetIn plain diagram valid place d
         → HaveOneFaceAt plain place c.on d.on
-    same c d m n = (m.meets.0, m.meets.1,
+    same c d m n = (
+      m.meets.0,
+      m.meets.1,
       subst (λ (on : List Bool). HasFace (plain on) place m.meets.0) (sym (there c m) ∙ there d n)
-      m.meets.1)
+          m.meets.1,
+    )
 
     pair_differs : (c d : Config) (configs : List Config)
         → AllPairs (λ (c d : Config). ¬ HaveOneFaceAt plain place c.on d.on) (c ∷ d ∷ configs)

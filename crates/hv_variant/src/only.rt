@@ -15,7 +15,11 @@ fn literal(store: &mut Store, variable: u32, is_on: bool) -> Result<Cond, Memory
         → holds store.new c values ≡ same is_on (value_of values variable)) }
 {
     let cond = store.var(variable)?;
-    if is_on { Ok(cond) } else { Ok(store.not(cond)?) }
+    if is_on {
+        Ok(cond)
+    } else {
+        Ok(store.not(cond)?)
+    }
 }
 
 /// The condition that exactly this configuration has. The literal of the last variable comes first,

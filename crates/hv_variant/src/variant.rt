@@ -48,7 +48,13 @@ fn alone(
         failing,
     } = parted;
     match failing.into_vec().into_iter().next() {
-        Some(Failing { cond: _, place, why }) => Ok(Variant::Refused { place, why }),
+        Some(
+            Failing {
+                cond: _,
+                place,
+                why,
+            },
+        ) => Ok(Variant::Refused { place, why }),
         None => Ok(Variant::Tokens(project(alloc, store, &value, config)?)),
     }
 }
