@@ -8,7 +8,7 @@ use Rattle.hv_base.specs.declared.config.Config.{Config}
 use Rattle.hv_base.specs.declared.token.CTok.{CTok}
 use Rattle.hv_base.specs.declared.place.Place.{Place}
 use Rattle.hv_base.specs.declared.place.Start.{Start}
-use Rattle.hv_cond.specs.Diagram.{Diagram, IsNever, IsNode, Keeps, holds}
+use Rattle.hv_cond.specs.Diagram.{Diagram, IsNode, Keeps, holds}
 use Rattle.hv_cond.specs.Parts.{count_satisfied}
 use Rattle.hv_cond.specs.declared.conditions.Cond.{Cond}
 use Rattle.hv_cstream.specs.Streams.{stream_in}
@@ -25,7 +25,7 @@ use Rattle.hv_toks.specs.declared.parted.Parted.{Parted}
 use Rattle.hv_toks.specs.declared.stream.StreamTok.{StreamTok}
 use Rattle.hv_variant.proofs.Literals.{agree-one, agree-refl}
 use Rattle.hv_variant.specs.Variants.{HasTokens}
-use Rattle.hv_variant.specs.working.Agreement.{IsOnly, agree}
+use Rattle.hv_variant.specs.working.Agreement.{IsOnly}
 
 ------ tokens
 

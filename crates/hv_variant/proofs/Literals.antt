@@ -1,5 +1,5 @@
 -- The values of one configuration, from a variable on.
-use Rattle.std.proofs.Common.{◌≡◌, ◌&&◌, ◌+◌, ◌-◌, ◌≤◌, ℕ, zero, suc, ◌<◌, Some, add-one, Bool, true, false, List, [], ◌∷◌, length, drop, refl, sym, ◌∙◌, ap, arith}
+use Rattle.std.proofs.Common.{◌≡◌, ◌&&◌, ◌+◌, ◌-◌, ◌≤◌, ℕ, zero, suc, ◌<◌, Some, add-one, Bool, true, false, List, [], ◌∷◌, length, drop, refl, ◌∙◌, ap, arith}
 use Rattle.std.specs.Prelude.{slice_get}
 use Rattle.std.proofs.lemmas.Option.{get_or_from_slice_get}
 use Rattle.hv_cond.specs.Diagram.{value_of}

@@ -1,4 +1,4 @@
-use Rattle.std.proofs.Common.{◌≡◌, ◌∙◌, sym, arith}
+use Rattle.std.proofs.Common.{◌∙◌, arith}
 use Rattle.hv_cond.specs.Laws.{Keeps-trans}
 use Rattle.hv_variant.proofs.Literals.{literal_before}
 use Rattle.hv_variant.proofs.only.only.Goals as goal

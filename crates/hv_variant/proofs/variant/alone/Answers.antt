@@ -1,4 +1,4 @@
-use Rattle.std.proofs.Common.{◌≡◌, ◌∙◌, sym}
+use Rattle.std.proofs.Common.{◌∙◌, sym}
 use Rattle.hv_variant.proofs.Alone.{alone_is_left, alone_is_refused, none_left}
 use Rattle.hv_variant.proofs.variant.alone.Goals as goal
 

@@ -1,4 +1,4 @@
-use Rattle.std.proofs.Common.{◌≡◌, ◌∙◌, sym}
+use Rattle.std.proofs.Common.{◌∙◌, sym}
 use Rattle.std.proofs.lemmas.Result.{IfOk-weaker}
 use Rattle.hv_preproc.specs.Plain.{plain_of}
 use Rattle.hv_variant.proofs.Alone.{IsOnly-kept, one_face}
