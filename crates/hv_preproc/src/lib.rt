@@ -21,3 +21,6 @@ pub use fault::PreFault;
 pub use headers::header_name;
 pub use refusal::preprocess;
 pub use stream::{preprocess_all, preprocess_parts};
+
+#[cfg(test)]
+mod tests;
