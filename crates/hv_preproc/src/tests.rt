@@ -7,14 +7,15 @@ mod macros;
 mod parts;
 mod refusals;
 
-ghost use Rattle.std.specs.Prelude.{IfOk, OnOk};
+ghost use Rattle.std.specs.Prelude.{◌≡◌, All, IfOk, OnOk, length};
 ghost use Rattle.hv_base.specs.Bundles.{HasMain};
+ghost use Rattle.hv_cond.specs.Diagram.{IsNode};
 
 use super::*;
-use hv_base::{Bundle, Config, Held, List, Memory, Refusal, Text};
+use hv_base::{Bundle, Config, Held, Memory, Refusal, Text};
 use hv_cond::Store;
 use hv_ctoks::{ReservedNames, spell};
-use hv_model::{ConfigFault, Model, ModelRefusal, read_config, read_model, valid_cond};
+use hv_model::{Model, ModelRefusal, read_config, read_model, valid_cond};
 use hv_toks::{Failing, Parted, Stream, project};
 use std::alloc::Global;
 use std::process::Abort;
@@ -75,14 +76,13 @@ fn bundle_of(alloc: Global, files: &[(&str, &str)]) -> Result<Bundle, Memory>
     Ok(bundle)
 }
 
-/// A configuration; all options off where the text is none.
-fn config_of(alloc: Global, model: &Model, text: &str) -> Result<Config, Memory> {
+/// A configuration; all options off where the text is empty.
+fn config_of(alloc: Global, model: &Model, text: &str) -> Result<Config, Memory>
+    ensures { IfOk result (λ config. length config.on ≡ length model.now.names) }
+{
     match read_config(alloc, model, text) {
         Ok(config) => Ok(config),
-        Err(ConfigFault::Memory) => Err(Memory),
-        Err(_) => Ok(Config {
-            on: List::new(alloc),
-        }),
+        Err(_) => Err(Memory),
     }
 }
 
@@ -112,7 +112,10 @@ fn write_tokens(
     store: &Store,
     stream: &Stream,
     config: &Config,
-) -> Result<(), Memory> {
+) -> Result<(), Memory>
+    requires conditions { All (λ token. IsNode store.now token.cond) stream.now }
+    requires values { length config.now.on ≡ store.now.variables }
+{
     let tokens = project(alloc, store, stream, config)?;
     for (index, token) in tokens.as_slice().iter().enumerate() {
         if index > 0 {
@@ -129,7 +132,10 @@ fn written(
     store: &Store,
     parted: &Parted<Stream>,
     config: &Config,
-) -> Result<Text, Memory> {
+) -> Result<Text, Memory>
+    requires conditions { All (λ token. IsNode store.now token.cond) parted.now.value }
+    requires values { length config.now.on ≡ store.now.variables }
+{
     let mut out = Text::new(alloc);
     for entry in parted.failing.as_slice() {
         if store.eval(entry.cond, config.on.as_slice()) {

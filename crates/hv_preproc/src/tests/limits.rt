@@ -32,9 +32,9 @@ fn a_file_that_includes_itself_is_too_deep(rt: HostRuntime) -> Result<(), Fail> 
 }
 
 /// A model with so many options, `O1` and on.
-fn options(alloc: Global, count: u32) -> Result<String, Memory> {
+fn options(alloc: Global, count: u16) -> Result<String, Memory> {
     let mut text = String::new(alloc);
-    for i in 1..count + 1 {
+    for i in 1..u32::from(count) + 1 {
         let line = format!(in alloc; "option O{i}\n")?;
         text.push_str(line.as_str())?;
     }
@@ -42,9 +42,9 @@ fn options(alloc: Global, count: u32) -> Result<String, Memory> {
 }
 
 /// A program with one statement for each of so many options.
-fn statements(alloc: Global, count: u32) -> Result<String, Memory> {
+fn statements(alloc: Global, count: u16) -> Result<String, Memory> {
     let mut text = String::from_str(alloc, "int main(void) {\n")?;
-    for i in 1..count + 1 {
+    for i in 1..u32::from(count) + 1 {
         let number = 64 + i;
         let lines = format!(in alloc; "#ifdef O{i}\nputchar({number});\n#endif\n")?;
         text.push_str(lines.as_str())?;
@@ -67,10 +67,34 @@ fn sixty_options_are_sixty_pieces(rt: HostRuntime) -> Result<(), Fail> {
     )
 }
 
+/// A macro that stands for the number of the last option that is on, of so many.
+fn last_of(alloc: Global, count: u16) -> Result<String, Memory> {
+    let mut text = String::new(alloc);
+    for i in 1..u32::from(count) + 1 {
+        let lines = format!(in alloc; "#ifdef O{i}\n#undef LAST\n#define LAST {i}\n#endif\n")?;
+        text.push_str(lines.as_str())?;
+    }
+    text.push_str("LAST\n")?;
+    Ok(text)
+}
+
+#[test]
+fn a_macro_of_sixty_options_has_sixty_one_meanings(rt: HostRuntime) -> Result<(), Fail> {
+    let model = options(rt.alloc(), 60)?;
+    let source = last_of(rt.alloc(), 60)?;
+    assert_left(
+        &rt,
+        rt.alloc(),
+        model.as_str(),
+        &[("main.c", source.as_str())],
+        &[("O1,O3", "3"), ("O3,O60", "60"), ("", "LAST")],
+    )
+}
+
 /// A line with a macro that stands for so many options, before which so many lines stand.
-fn one_macro_for_all(alloc: Global, count: u32) -> Result<String, Memory> {
+fn one_macro_for_all(alloc: Global, count: u16) -> Result<String, Memory> {
     let mut text = String::from_str(alloc, "#define ALL")?;
-    for i in 1..count + 1 {
+    for i in 1..u32::from(count) + 1 {
         let name = format!(in alloc; " O{i}")?;
         text.push_str(name.as_str())?;
     }
@@ -98,7 +122,7 @@ fn eleven_options_are_too_many_faces(rt: HostRuntime) -> Result<(), Fail> {
     let source = one_macro_for_all(alloc, 11)?;
     let model = model_of(alloc, model.as_str())?;
     let bundle = bundle_of(alloc, &[("main.c", source.as_str())])?;
-    let mut store = Store::new(alloc, 11)?;
+    let mut store = Store::new(alloc, model.options() as u32)?;
     let valid = valid_cond(&model, &mut store)?;
     let reserved = ReservedNames::Refused;
     match preprocess_all(alloc, &mut store, valid, &bundle, &model, reserved) {
@@ -129,7 +153,7 @@ D(D(D(D(D(D(D(D(D(D(D(D(D(D(D(D(D(1))))))))))))))))); }
 }
 
 /// A file with so many open groups, the first of which asks for an option.
-fn nested_groups(alloc: Global, count: u32) -> Result<String, Memory> {
+fn nested_groups(alloc: Global, count: u16) -> Result<String, Memory> {
     let mut text = String::from_str(alloc, "#ifdef A\n")?;
     for _ in 1..count {
         text.push_str("#if 1\n")?;
@@ -190,8 +214,8 @@ fn a_header_with_one_more_open_group_is_refused_where_it_is_entered(
 
 /// A file of a chain: it includes the next, but for the last.
 fn link(alloc: Global, index: u32, count: u32) -> Result<String, Memory> {
-    let next = index + 1;
     if index < count {
+        let next = index + 1;
         Ok(format!(in alloc; "#include \"{next}\"\n")?)
     } else {
         Ok(String::from_str(alloc, "last\n")?)
@@ -199,9 +223,10 @@ fn link(alloc: Global, index: u32, count: u32) -> Result<String, Memory> {
 }
 
 /// A main file, and so many headers each of which includes the next.
-fn chain(alloc: Global, count: u32) -> Result<Bundle, Memory>
+fn chain(alloc: Global, count: u16) -> Result<Bundle, Memory>
     ensures { IfOk result HasMain }
 {
+    let count = u32::from(count);
     let first = link(alloc, 0, count)?;
     let mut bundle = main_alone(alloc, "0", first.as_str())?;
     for i in 1..count + 1 {
@@ -213,10 +238,10 @@ fn chain(alloc: Global, count: u32) -> Result<Bundle, Memory>
 }
 
 /// The number of tokens, or of the cause of the first refusal, of a chain of headers.
-fn chain_comes_to(alloc: Global, count: u32) -> Result<(usize, u8), Memory> {
+fn chain_comes_to(alloc: Global, count: u16) -> Result<(usize, u8), Memory> {
     let model = model_of(alloc, NO_OPTION)?;
     let bundle = chain(alloc, count)?;
-    let mut store = Store::new(alloc, 0)?;
+    let mut store = Store::new(alloc, model.options() as u32)?;
     let valid = valid_cond(&model, &mut store)?;
     let reserved = ReservedNames::Refused;
     match preprocess(alloc, &mut store, valid, &bundle, &model, reserved) {

@@ -2,19 +2,19 @@
 use super::*;
 use hv_base::Start;
 
-/// What a product line has for a parser in each valid configuration.
+/// What a product line has for a parser in each valid configuration, over a store of its own.
 fn parts(
     alloc: Global,
-    store: &mut Store,
     model: &str,
     files: &[(&str, &str)],
-) -> Result<Parted<Stream>, Memory> {
+) -> Result<(Store, Parted<Stream>), Memory> {
     let model = model_of(alloc, model)?;
     let bundle = bundle_of(alloc, files)?;
-    let valid = valid_cond(&model, store)?;
+    let mut store = Store::new(alloc, model.options() as u32)?;
+    let valid = valid_cond(&model, &mut store)?;
     let reserved = ReservedNames::Refused;
-    match preprocess_parts(alloc, store, valid, &bundle, &model, reserved) {
-        Ok(parted) => Ok(parted),
+    match preprocess_parts(alloc, &mut store, valid, &bundle, &model, reserved) {
+        Ok(parted) => Ok((store, parted)),
         Err(_) => Err(Memory),
     }
 }
@@ -42,13 +42,7 @@ fn sixty_parts_of_a_string_stay_sixty_tokens(rt: HostRuntime) -> Result<(), Fail
         let lines = format!(in alloc; "#ifdef O{i}\n\"{i}\"\n#endif\n")?;
         source.push_str(lines.as_str())?;
     }
-    let mut store = Store::new(alloc, 60)?;
-    let parted = parts(
-        alloc,
-        &mut store,
-        model.as_str(),
-        &[("main.c", source.as_str())],
-    )?;
+    let (_, parted) = parts(alloc, model.as_str(), &[("main.c", source.as_str())])?;
     assert_eq!(rt; parted.value.len(), 60);
     assert_eq!(rt; parted.failing.len(), 0);
     Ok(())
@@ -68,8 +62,7 @@ fn write_start(alloc: Global, out: &mut Text, start: &Start) -> Result<(), Memor
 
 /// The places and indices of the tokens that there are where option A has this value.
 fn starts_of(alloc: Global, files: &[(&str, &str)], is_on: bool) -> Result<Text, Memory> {
-    let mut store = Store::new(alloc, 1)?;
-    let parted = parts(alloc, &mut store, ONE_OPTION, files)?;
+    let (store, parted) = parts(alloc, ONE_OPTION, files)?;
     let mut out = Text::new(alloc);
     for token in parted.value.as_slice() {
         if store.eval(token.cond, &[is_on]) {
