@@ -133,7 +133,9 @@ fn written(
     parted: &Parted<Stream>,
     config: &Config,
 ) -> Result<Text, Memory>
+    requires good { IsNode store.now parted.now.good }
     requires conditions { All (λ token. IsNode store.now token.cond) parted.now.value }
+    requires entries { All (λ entry. IsNode store.now entry.cond) parted.now.failing }
     requires values { length config.now.on ≡ store.now.variables }
 {
     let mut out = Text::new(alloc);

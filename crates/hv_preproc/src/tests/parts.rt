@@ -1,20 +1,27 @@
 //! String literals that aren't joined, and where tokens come from.
+ghost use Rattle.std.specs.Prelude.{◌≡◌, All, IfOk, OnOk, length};
+ghost use Rattle.hv_base.specs.Bundles.{HasMain};
+ghost use Rattle.hv_cond.specs.Diagram.{IsNode};
+
 use super::*;
 use hv_base::Start;
 
-/// What a product line has for a parser in each valid configuration, over a store of its own.
+/// What a bundle has for a parser in each valid configuration.
 fn parts(
     alloc: Global,
-    model: &str,
-    files: &[(&str, &str)],
-) -> Result<(Store, Parted<Stream>), Memory> {
-    let model = model_of(alloc, model)?;
-    let bundle = bundle_of(alloc, files)?;
-    let mut store = Store::new(alloc, model.options() as u32)?;
-    let valid = valid_cond(&model, &mut store)?;
-    let reserved = ReservedNames::Refused;
-    match preprocess_parts(alloc, &mut store, valid, &bundle, &model, reserved) {
-        Ok(parted) => Ok((store, parted)),
+    store: &mut Store,
+    model: &Model,
+    bundle: &Bundle,
+) -> Result<Parted<Stream>, Memory>
+    requires main { HasMain bundle.now }
+    requires variables { store.old.variables ≡ length model.now.names }
+    ensures variables { OnOk result (store.new.variables ≡ store.old.variables) }
+    ensures conditions { IfOk result
+        (λ parted. All (λ token. IsNode store.new token.cond) parted.value) }
+{
+    let valid = valid_cond(model, store)?;
+    match preprocess_parts(alloc, store, valid, bundle, model, ReservedNames::Refused) {
+        Ok(parted) => Ok(parted),
         Err(_) => Err(Memory),
     }
 }
@@ -42,7 +49,10 @@ fn sixty_parts_of_a_string_stay_sixty_tokens(rt: HostRuntime) -> Result<(), Fail
         let lines = format!(in alloc; "#ifdef O{i}\n\"{i}\"\n#endif\n")?;
         source.push_str(lines.as_str())?;
     }
-    let (_, parted) = parts(alloc, model.as_str(), &[("main.c", source.as_str())])?;
+    let model = model_of(alloc, model.as_str())?;
+    let bundle = bundle_of(alloc, &[("main.c", source.as_str())])?;
+    let mut store = Store::new(alloc, model.options() as u32)?;
+    let parted = parts(alloc, &mut store, &model, &bundle)?;
     assert_eq!(rt; parted.value.len(), 60);
     assert_eq!(rt; parted.failing.len(), 0);
     Ok(())
@@ -60,27 +70,44 @@ fn write_start(alloc: Global, out: &mut Text, start: &Start) -> Result<(), Memor
     out.extend_from_slice(b"; ")
 }
 
-/// The places and indices of the tokens that there are where option A has this value.
-fn starts_of(alloc: Global, files: &[(&str, &str)], is_on: bool) -> Result<Text, Memory> {
-    let (store, parted) = parts(alloc, ONE_OPTION, files)?;
+/// The places and indices of the tokens that a configuration keeps.
+fn kept_starts(
+    alloc: Global,
+    store: &Store,
+    stream: &Stream,
+    config: &Config,
+) -> Result<Text, Memory>
+    requires conditions { All (λ token. IsNode store.now token.cond) stream.now }
+    requires values { length config.now.on ≡ store.now.variables }
+{
     let mut out = Text::new(alloc);
-    for token in parted.value.as_slice() {
-        if store.eval(token.cond, &[is_on]) {
+    for token in stream.as_slice() {
+        if store.eval(token.cond, config.on.as_slice()) {
             write_start(alloc, &mut out, &token.start)?;
         }
     }
     Ok(out)
 }
 
-/// Whether the tokens have these places and indices.
+/// The places and indices of a configuration's tokens.
+fn starts_of(alloc: Global, files: &[(&str, &str)], config: &str) -> Result<Text, Memory> {
+    let model = model_of(alloc, ONE_OPTION)?;
+    let bundle = bundle_of(alloc, files)?;
+    let config = config_of(alloc, &model, config)?;
+    let mut store = Store::new(alloc, model.options() as u32)?;
+    let parted = parts(alloc, &mut store, &model, &bundle)?;
+    kept_starts(alloc, &store, &parted.value, &config)
+}
+
+/// Whether a configuration's tokens have these places and indices.
 fn assert_starts(
     rt: &impl Abort,
     alloc: Global,
     files: &[(&str, &str)],
-    is_on: bool,
+    config: &str,
     wanted: &str,
 ) -> Result<(), Fail> {
-    let found = starts_of(alloc, files, is_on)?;
+    let found = starts_of(alloc, files, config)?;
     let found = match str::from_utf8(found.as_slice()) {
         Ok(found) => found,
         Err(_) => "no text",
@@ -103,6 +130,6 @@ fn a_start_has_a_place_and_an_index(rt: HostRuntime) -> Result<(), Fail> {
     // 9 + 14 + 6 + 12 + 7 bytes stand before `M`, and two more before the first `#include`
     let with = "0 48 0 ; 0 48 1 ; 50 > 1 0 0 ; 65 > 1 0 0 ; ";
     let without = "0 48 0 ; 50 > 1 0 0 ; 65 > 1 0 0 ; ";
-    assert_starts(&rt, rt.alloc(), &files, true, with)?;
-    assert_starts(&rt, rt.alloc(), &files, false, without)
+    assert_starts(&rt, rt.alloc(), &files, "A", with)?;
+    assert_starts(&rt, rt.alloc(), &files, "", without)
 }
