@@ -65,7 +65,7 @@ starts_fixed Directive differs macros others text = refl
 starts_fixed FileEnd differs macros others text = refl
 starts_fixed Line differs macros others text = absurd (differs refl)
 
-episode_is : (ends : RunEnd) (text : List PpTok) (position : ℕ) (macros : List ℕ → Macro)
+pub episode_is : (ends : RunEnd) (text : List PpTok) (position : ℕ) (macros : List ℕ → Macro)
     (state : State) → state ≡ start ends macros (drop position text)
     → episode ends text position macros ≡ run ends macros MOST_EVENTS state
 unfolding episode
@@ -224,7 +224,7 @@ turn_of old mid new last e c narrowed machine left part found good r grows p d =
           (settled_before r.keeps e good machine narrowed part p) asked,
     )
 
-says_stop : (d : Deed') (deed : Deed) → Says d deed → d ≢ deed'.Stop → deed ≢ stop
+pub says_stop : (d : Deed') (deed : Deed) → Says d deed → d ≢ deed'.Stop → deed ≢ stop
 says_stop deed'.Give deed says differs e = let x : give ≡ stop = sym says ∙ e in cc
 says_stop (deed'.Use body) deed says differs e =
     let x : use_macro says.0 body.value ≡ stop = sym says.1 ∙ e in cc

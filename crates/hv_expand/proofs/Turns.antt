@@ -23,7 +23,7 @@ StopsEmpty give e = Unit {0}
 StopsEmpty (use_macro place body) e = Unit {0}
 
 -- the episode after a deed, by how many events are left
-abbrev behind : RunEnd → (List ℕ → Macro) → ℕ → State → Deed → Episode
+abbrev pub behind : RunEnd → (List ℕ → Macro) → ℕ → State → Deed → Episode
 behind ends m zero state d = too_long d
 behind ends m (suc left) state d = run ends m left (moved ends state d)
 
@@ -64,7 +64,7 @@ unfolding run
 one_turn ends m zero t s fs = refl
 one_turn ends m (suc left) t s fs = refl
 
-one_turn_in : (ends : RunEnd) (m : List ℕ → Macro) (left : ℕ) (state : State) → IsAt state
+pub one_turn_in : (ends : RunEnd) (m : List ℕ → Macro) (left : ℕ) (state : State) → IsAt state
     → run ends m left state ≡ adding (events_in state (does ends state m))
     (behind ends m left state (does ends state m))
 one_turn_in ends m left state n =
@@ -77,13 +77,13 @@ stops : (ends : RunEnd) (m : List ℕ → Macro) (left : ℕ) (t : Token) (s : S
 stops ends m zero t s fs = refl
 stops ends m (suc left) t s fs = is_refused ends m left DirectiveInArguments
 
-stops_in : (ends : RunEnd) (m : List ℕ → Macro) (left : ℕ) (state : State) → IsAt state
+pub stops_in : (ends : RunEnd) (m : List ℕ → Macro) (left : ℕ) (state : State) → IsAt state
     → behind ends m left state stop ≡ ended (fails DirectiveInArguments)
 stops_in ends m left state n =
     subst (λ (s : State). behind ends m left s stop ≡ ended (fails DirectiveInArguments))
     (sym n.is) (stops ends m left n.token n.scan n.frames)
 
-lasts : (a : Deed) → a ≢ stop → too_long a ≡ ended (fails EpisodeTooLong)
+pub lasts : (a : Deed) → a ≢ stop → too_long a ≡ ended (fails EpisodeTooLong)
 lasts give some = refl
 lasts (use_macro p b) some = refl
 lasts stop some = absurd (some refl)

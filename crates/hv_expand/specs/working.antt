@@ -3,6 +3,8 @@
 pub mod Questions
 pub mod Going
 pub mod Kept
+pub mod Lone
 pub mod Moves
 pub mod Numbers
+pub mod PlainSteps
 pub mod Steps

@@ -56,7 +56,7 @@ pub(crate) enum Turn {
 }
 
 /// Whether a name that means this is defined.
-fn is_defined(meaning: &Meaning) -> bool
+pub(crate) fn is_defined(meaning: &Meaning) -> bool
     ensures { is_macro (macro_of meaning.now) ≡ result }
 {
     matches!(meaning, Meaning::Defined { .. })
@@ -64,7 +64,7 @@ fn is_defined(meaning: &Meaning) -> bool
 
 /// Why an episode is refused at a token with which this is done, where so many more events may
 /// come.
-fn refusal(deed: &Deed, left: usize) -> Option<Why>
+pub(crate) fn refusal(deed: &Deed, left: usize) -> Option<Why>
     ensures { IsRefusal deed.now left result }
 {
     match deed {
@@ -75,7 +75,7 @@ fn refusal(deed: &Deed, left: usize) -> Option<Why>
 }
 
 /// The machine after that.
-fn move_on<'a>(machine: Machine<'a>, deed: &Deed) -> Result<Machine<'a>, Memory>
+pub(crate) fn move_on<'a>(machine: Machine<'a>, deed: &Deed) -> Result<Machine<'a>, Memory>
     requires { open_names machine ≡ [] }
     ensures moves { IfOk result (λ next. (macros : List ℕ → Macro) (d : PlainDeed)
         → Says deed.now d → IsAt (state_of macros machine.entry)

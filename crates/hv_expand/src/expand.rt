@@ -9,6 +9,7 @@ ghost use Rattle.hv_expand.specs.Outcomes.{AreNumbered, HaveOneFace, IfTooMany, 
 ghost use Rattle.hv_expand.specs.working.Numbers.{fault_of, numbered};
 
 use crate::episodes::Episodes;
+use crate::lone::{lone_outcome, lone_token};
 use crate::outcome::{Ending, ExpandFault, Outcome};
 use hv_base::{List, Memory};
 use hv_cond::{Cond, Store};
@@ -78,6 +79,12 @@ pub fn expand_episode(
     ensures too_many { IfErr result (IfTooMany (AreTooMany store.new cond
         (HaveOneFace ends run.now at store.old table.now))) }
 {
+    if let Some(token) = lone_token(store, table, run, ends, at, cond) {
+        let Ok(outcomes) = lone_outcome(alloc, token, at + 1, cond) else {
+            return Err(ExpandFault::Memory);
+        };
+        return Ok(outcomes);
+    }
     let episodes = Episodes {
         alloc,
         table,

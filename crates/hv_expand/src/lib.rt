@@ -4,10 +4,13 @@
 
 mod episodes;
 mod expand;
+mod lone;
 mod moves;
 mod outcome;
+mod plain;
 mod questions;
 
 pub use expand::expand_episode;
 pub use hv_plain::RunEnd;
-pub use outcome::{ExpandFault, Expanded, Outcome};
+pub use outcome::{Ending, ExpandFault, Expanded, Outcome};
+pub use plain::{Entry, plain_episode};

@@ -37,7 +37,7 @@ pub(crate) struct Move {
 }
 
 /// What is done with a name that means this.
-fn decide(follows: Following, meaning: Meaning) -> Deed
+pub(crate) fn decide(follows: Following, meaning: Meaning) -> Deed
     ensures { Says result (deed (next_of follows) (macro_of meaning)) }
 {
     let Meaning::Defined { body, .. } = meaning else {

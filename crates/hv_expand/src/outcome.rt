@@ -35,7 +35,8 @@ pub enum ExpandFault {
 
 /// What an episode comes to, and where it goes on.
 #[derive(Debug, Drop)]
-pub(crate) struct Ending {
-    pub(crate) result: Expanded,
-    pub(crate) end: usize,
+pub struct Ending {
+    pub result: Expanded,
+    /// The position in the run; that of the first token where the episode is refused.
+    pub end: usize,
 }

@@ -18,15 +18,20 @@ pub fn object(alloc: Global, text: &[u8]) -> Result<Body, Memory> {
     Ok(Body::Object { body })
 }
 
-/// The body of a function-like macro.
+/// The body of a function-like macro; where the last name is `...`, of a variadic one.
 pub fn function(alloc: Global, names: &[&str], text: &[u8]) -> Result<Body, Memory> {
     let mut params = List::new(alloc);
+    let mut variadic = false;
     for name in names {
-        params.add(Text::from_slice(alloc, name.as_bytes())?)?;
+        if *name == "..." {
+            variadic = true;
+        } else {
+            params.add(Text::from_slice(alloc, name.as_bytes())?)?;
+        }
     }
     Ok(Body::Function {
         params,
-        variadic: false,
+        variadic,
         body: cut(alloc, text)?,
     })
 }

@@ -41,7 +41,7 @@ fn model_of(alloc: Global, options: u32) -> Result<Model, Memory> {
 }
 
 /// Where an episode begins: of a controlling line at its first token.
-fn begin_of(ends: RunEnd, at: usize) -> usize
+pub(crate) fn begin_of(ends: RunEnd, at: usize) -> usize
     ensures line { ends ≡ Line → result ≡ 0 }
     ensures within { result ≤ at }
 {

@@ -16,6 +16,8 @@ use std::alloc::Global;
 use std::process::Abort;
 use std::test::Fail;
 
+mod plain;
+
 /// A macro: its name, its parameters where it is function-like, its replacement list, and where it
 /// is defined.
 type Definition = (
@@ -59,9 +61,9 @@ fn outcome_in<'a>(store: &Store, outcomes: &'a [Outcome], values: &[bool]) -> Op
 }
 
 /// An outcome as it stands in a row.
-fn row_of(alloc: Global, outcome: &Outcome) -> Result<Text, Memory> {
+fn row_of(alloc: Global, found: &Expanded, end: usize) -> Result<Text, Memory> {
     let mut text: Text = List::new(alloc);
-    match &outcome.result {
+    match found {
         Expanded::Tokens(tokens) => {
             for token in tokens.as_slice() {
                 text.extend_from_slice(token.text.as_slice())?;
@@ -73,7 +75,7 @@ fn row_of(alloc: Global, outcome: &Outcome) -> Result<Text, Memory> {
             text.add(b' ')?;
         }
     }
-    let end = format!(in alloc; "@{}", outcome.end)?;
+    let end = format!(in alloc; "@{end}")?;
     text.extend_from_slice(end.as_bytes())?;
     Ok(text)
 }
@@ -102,7 +104,7 @@ fn rows_of(
     for number in 0..8u32 {
         let values = [number & 1 != 0, number & 2 != 0, number & 4 != 0];
         if let Some(outcome) = outcome_in(&family.store, outcomes.as_slice(), &values) {
-            rows.add(row_of(alloc, outcome)?)?;
+            rows.add(row_of(alloc, &outcome.result, outcome.end)?)?;
         }
     }
     Ok((outcomes.len(), rows))
@@ -120,6 +122,8 @@ fn assert_rows<R: Abort>(
         let (found_count, found) = rows_of(alloc, &mut family, ends, run, at)?;
         assert_eq!(rt; found_count, count, "outcomes of {run}");
         assert_wanted(rt, run, found.as_slice(), &wanted);
+        let plain = plain::rows_of(alloc, definitions, ends, run, at)?;
+        assert_wanted(rt, run, plain.as_slice(), &wanted);
     }
     Ok(())
 }

@@ -31,7 +31,8 @@ pub(crate) struct Taken {
     pub(crate) hides: Hides,
 }
 
-/// Arguments that stand at the beginning of some tokens, and how many tokens they are, with the `)`.
+/// Arguments that stand at the beginning of some tokens, and how many tokens they are, with the
+/// `)`.
 #[derive(Drop)]
 pub(crate) struct Found {
     pub(crate) taken: Taken,

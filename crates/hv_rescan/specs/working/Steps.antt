@@ -118,8 +118,8 @@ taken_of macros (Some t) after = Some (record {
   after = after;
 })
 
--- where arguments are taken of the tokens that stand next, they are those of the invocation, whatever
--- stands after these tokens
+-- where arguments are taken of the tokens that stand next, they are those of the invocation,
+-- whatever stands after these tokens
 abbrev pub FindsArguments : Body → Option Taken' → (before after : List Token') → Type 0
 FindsArguments body None before after = after ≡ before
 FindsArguments body (Some t) before after = (length after ≤ length before)
