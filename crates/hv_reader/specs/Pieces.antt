@@ -14,13 +14,13 @@ use Rattle.hv_reader.specs.declared.piece.Piece.{Piece}
 use Rattle.hv_reader.specs.declared.piece.Piece.TheVariants.{Token as OfToken, Hole}
 
 -- the place of a hole, of which no tree has any
-abbrev pub nowhere : Place
-nowhere = record { stack = []; file = 0; offset = 0 }
+abbrev pub hole_place : Place
+hole_place = record { stack = []; file = 0; offset = 0 }
 
 -- a piece as a token of the grammar
 abbrev pub token_of : Piece → Token
 token_of (OfToken t) = control.token_of t
-token_of Hole = token_at nowhere hole
+token_of Hole = token_at hole_place hole
 
 -- pieces as tokens of the grammar
 abbrev pub tokens_of : List Piece → List Token
