@@ -16,6 +16,7 @@ static BDD either(int i, int j) { return bdd_apply(bdd_ithvar(i), bdd_ithvar(j),
 
 static BDD implication(int i, int j) { return bdd_apply(bdd_nithvar(i), bdd_ithvar(j), bddop_or); }
 
+/* Joined from the last pair on, which is the fastest way here. */
 static BDD pairs(int n) {
     BDD all = bddtrue;
     for (int i = n - 1; i >= 0; i--)
@@ -23,14 +24,15 @@ static BDD pairs(int n) {
     return all;
 }
 
-static BDD chain_from_last(int n) {
+/* Joined from the last link on, which is the fastest way here. */
+static BDD chain(int n) {
     BDD all = bddtrue;
     for (int i = n - 1; i >= 0; i--)
         all = instead(all, bdd_apply(implication(i, i + 1), all, bddop_and));
     return all;
 }
 
-static BDD chain_from_first(int n) {
+static BDD chain_by_and(int n) {
     BDD all = bddtrue;
     for (int i = 0; i < n; i++)
         all = instead(all, bdd_apply(all, implication(i, i + 1), bddop_and));
@@ -83,16 +85,16 @@ static BDD same(int n) {
 int main(int count, char **words) {
     if (count != 3) return 2;
     int n = atoi(words[2]), is_queens = strcmp(words[1], "queens") == 0;
-    int is_chain = strncmp(words[1], "chain-", 6) == 0;
+    int is_chain = strncmp(words[1], "chain", 5) == 0;
     bdd_init(100000, 10000);
     bdd_gbc_hook(NULL);
     bdd_resize_hook(NULL);
     bdd_setvarnum(is_queens ? n * n : is_chain ? n + 1 : 2 * n);
-    BDD built = is_queens                                      ? queens(n)
-                : strcmp(words[1], "chain-from-last") == 0  ? chain_from_last(n)
-                : strcmp(words[1], "chain-from-first") == 0 ? chain_from_first(n)
-                : strcmp(words[1], "same") == 0             ? same(n)
-                                                            : pairs(n);
+    BDD built = is_queens                               ? queens(n)
+                : strcmp(words[1], "chain") == 0        ? chain(n)
+                : strcmp(words[1], "chain-by-and") == 0 ? chain_by_and(n)
+                : strcmp(words[1], "same") == 0         ? same(n)
+                                                        : pairs(n);
     printf("%s %d: %d nodes\n", words[1], n, bdd_nodecount(built));
     return 0;
 }

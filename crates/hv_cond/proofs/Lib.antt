@@ -4,6 +4,7 @@ pub mod Chains
 pub mod Combining
 pub mod Complementing
 pub mod Counts
+pub mod Joining
 pub mod Lifts
 pub mod Meeting
 pub mod OrderLemmas

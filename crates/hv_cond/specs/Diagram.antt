@@ -3,7 +3,7 @@
 -- the order is no part of it. Nothing here makes a branch: how conditions are combined, and that a
 -- diagram is reduced, is no part of a meaning.
 use Rattle.std.specs.Prelude.{◌≡◌, ◌≢◌, ◌==◌, ◌+◌, ◌<◌, ◌≤◌, ℕ, Bool, true, false, ◌||◌, if◌then◌else◌, List, [], ◌∷◌, length, count_by, slice_index}
-use Rattle.std.specs.List.{slice_index_or, range_with_len}
+use Rattle.std.specs.List.{list_all, slice_index_or, range_with_len}
 use Rattle.hv_cond.specs.declared.conditions.Cond.{Cond}
 use Rattle.hv_cond.specs.declared.conditions.Node.{Node}
 use Rattle.hv_cond.specs.declared.conditions.Node.TheVariants.{Truth, Falsity, Branch}
@@ -85,6 +85,10 @@ pub record Keeps (old new : Diagram) : Type 0 where
 abbrev pub AllNodes : Diagram → List Cond → Type 0
 AllNodes diagram [] = Unit {0}
 AllNodes diagram (c ∷ conds) = IsNode diagram c × AllNodes diagram conds
+
+-- whether each condition of the list holds where the variables have these values
+abbrev pub all_hold : Diagram → List Cond → List Bool → Bool
+all_hold diagram conds values = list_all (λ c. holds diagram c values) conds
 
 -- no assignment satisfies the condition
 abbrev pub IsNever : Diagram → Cond → Type 0

@@ -5,12 +5,13 @@ use Rattle.std.specs.List.{AllPairs, list_any, slice_index_or}
 use Rattle.std.proofs.Common.{sym, ap, ◌∙◌, add-zero, arith, suc, zero, zero-add}
 use Rattle.std.proofs.Math.Nat.{le_refl, le_trans}
 use Rattle.std.proofs.lemmas.Bool.{both_ways, false_from_ne_true, true_from_ne_false, true≢false}
+use Rattle.std.proofs.lemmas.List.Folds.{list_all-append}
 use Rattle.std.proofs.lemmas.List.Sums.{sum_by-cons, sum_by-append}
 use Rattle.hv_cond.specs.declared.conditions.Cond.{Cond}
 use Rattle.hv_cond.specs.declared.conditions.Node.{Node}
 use Rattle.hv_cond.specs.declared.conditions.Node.TheVariants.{Truth, Falsity, Branch}
 use Rattle.hv_cond.specs.declared.nodes.Decision.{Decision}
-use Rattle.hv_cond.specs.Diagram.{AllNodes, AreDisjoint, Diagram, Implies, IsLeast, IsNever, IsNode, Keeps, SameMeaning, holds, holds_in, node, node_in, size, top, value_of}
+use Rattle.hv_cond.specs.Diagram.{AllNodes, AreDisjoint, Diagram, Implies, IsLeast, IsNever, IsNode, Keeps, SameMeaning, all_hold, holds, holds_in, node, node_in, size, top, value_of}
 use Rattle.hv_cond.specs.Parts.{count_satisfied, IsPartition, NoneFalse}
 
 -- a diagram keeps its own nodes
@@ -122,6 +123,20 @@ pub AllNodes-append : (d : Diagram) (xs ys : List Cond) → AllNodes d xs → Al
     → AllNodes d (xs ++ ys)
 AllNodes-append d [] ys first second = second
 AllNodes-append d (x ∷ xs) ys first second = (first.0, AllNodes-append d xs ys first.1 second)
+
+-- conditions hold together under the same values
+pub all_hold-kept : {old new : Diagram} → Keeps old new → (conds : List Cond)
+    → AllNodes old conds → (values : List Bool)
+    → all_hold new conds values ≡ all_hold old conds values
+all_hold-kept e [] nodes values = refl
+all_hold-kept {old} {new} e (c ∷ conds) nodes values =
+    ap (λ (b : Bool). b && all_hold new conds values) (e.meaning c nodes.0 values)
+    ∙ ap (λ (b : Bool). holds old c values && b) (all_hold-kept e conds nodes.1 values)
+
+-- two lists hold together where each does
+pub all_hold-append : (d : Diagram) (xs ys : List Cond) (values : List Bool)
+    → all_hold d (xs ++ ys) values ≡ (all_hold d xs values && all_hold d ys values)
+all_hold-append d xs ys values = list_all-append (λ (c : Cond). holds d c values) xs ys
 
 -- what none of them is stays so
 pub NoneFalse-kept : {old new : Diagram} → Keeps old new → (conds : List Cond)

@@ -5,6 +5,7 @@
 mod complements;
 mod conditions;
 mod connectives;
+mod joins;
 mod meetings;
 mod nodes;
 mod orders;

@@ -3,7 +3,7 @@ ghost use Rattle.std.specs.Prelude.{◌≡◌, ◌↔◌, ℕ, ◌+◌, ◌*◌,
 ghost use Rattle.std.specs.List.{range_with_len};
 ghost use Rattle.hv_cond.specs.declared.conditions.Node.TheVariants.{Falsity};
 ghost use Rattle.hv_cond.specs.Order.{order_from};
-ghost use Rattle.hv_cond.specs.Diagram.{AreDisjoint, Describes, Diagram, IsLeast, IsNever, IsNode, Keeps, Meet, SameMeaning, holds, node, nodes, size, value_of};
+ghost use Rattle.hv_cond.specs.Diagram.{AllNodes, AreDisjoint, Describes, Diagram, IsLeast, IsNever, IsNode, Keeps, Meet, SameMeaning, all_hold, holds, node, nodes, size, value_of};
 
 use crate::complements::{Complements, complement};
 use crate::conditions::{Cond, Node};
@@ -11,8 +11,8 @@ use crate::connectives::{Connective, combine};
 use crate::meetings::meet;
 use crate::nodes::{Decision, Nodes};
 use crate::orders::Order;
-use crate::paths;
 use crate::results::Results;
+use crate::{joins, paths};
 use std::alloc::{AllocError, Global};
 use std::marker::Model;
 
@@ -159,6 +159,34 @@ impl Store {
         complement(&mut self.nodes, &mut self.complements, a)
     }
 
+    /// What a condition says without another: the first holds and the second doesn't.
+    pub fn without(&mut self, a: Cond, b: Cond) -> Result<Cond, AllocError>
+        requires first { IsNode self.old a }
+        requires second { IsNode self.old b }
+        ensures keeps { Keeps self.old self.new }
+        ensures node { IfOk result (IsNode self.new) }
+        ensures meaning { IfOk result
+            (λ c. (values : List Bool) → holds self.new c values
+            ≡ (holds self.old a values && not (holds self.old b values))) }
+    {
+        let opposite = self.not(b)?;
+        self.and(a, opposite)
+    }
+
+    /// The conjunction of these conditions, in whatever order they stand: they are joined so that
+    /// no step makes anew what the steps before made, where each is about variables that stand near
+    /// one another.
+    pub fn all(&mut self, alloc: Global, parts: &[Cond]) -> Result<Cond, AllocError>
+        requires { AllNodes self.old parts.now }
+        ensures keeps { Keeps self.old self.new }
+        ensures node { IfOk result (IsNode self.new) }
+        ensures meaning { IfOk result
+            (λ c. (values : List Bool) →
+            holds self.new c values ≡ all_hold self.old parts.now values) }
+    {
+        joins::all(self, alloc, parts)
+    }
+
     /// Whether some assignment satisfies both conditions. No branch is made, and the walk through
     /// pairs of branches ends at the first path that both allow; pairs that never hold together are
     /// kept as those of `and` are.
@@ -171,6 +199,14 @@ impl Store {
     {
         self.conjunctions.trim(self.nodes.answers_kept());
         meet(&self.nodes, &mut self.conjunctions, a, b)
+    }
+
+    /// The place in the order of the variable that a condition tests first, or the number of
+    /// variables.
+    pub(crate) fn level(&self, c: Cond) -> u32
+        requires { IsNode self.now c }
+    {
+        self.nodes.level(c)
     }
 
     /// Whether a condition holds where the variables have these values.

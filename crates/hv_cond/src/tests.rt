@@ -142,6 +142,8 @@ fn connectives_of_tables(rt: HostRuntime) -> Result<(), Fail> {
         assert_eq!(rt; table_of(&store, either), table | other);
         let neither = store.not(either)?;
         assert_eq!(rt; table_of(&store, neither), 255 - (table | other));
+        let only = store.without(a, b)?;
+        assert_eq!(rt; table_of(&store, only), table & (255 - other));
         let again = build(&mut store, 0, 255 - (table | other))?;
         assert!(rt; store.same(neither, again), "neither {table} nor {other}");
     }
@@ -160,5 +162,20 @@ fn nodes_of_a_variable(rt: HostRuntime) -> Result<(), Fail> {
     assert_eq!(rt; var, 1);
     assert!(rt; store.same(low, store.falsity()));
     assert!(rt; store.same(high, store.truth()));
+    Ok(())
+}
+
+#[test]
+fn all_of_some_conditions(rt: HostRuntime) -> Result<(), Fail> {
+    let mut store = Store::ordered(rt.alloc(), 3, &[1])?;
+    let none = store.all(rt.alloc(), &[])?;
+    assert!(rt; store.same(none, store.truth()));
+    let a = build(&mut store, 0, 0b0111_1110)?;
+    let b = build(&mut store, 0, 0b1100_1111)?;
+    let c = build(&mut store, 0, 0b1111_0110)?;
+    let all = store.all(rt.alloc(), &[a, b, c])?;
+    assert_eq!(rt; table_of(&store, all), 0b0100_0110);
+    let reversed = store.all(rt.alloc(), &[c, b, a, b])?;
+    assert!(rt; store.same(all, reversed));
     Ok(())
 }

@@ -3,22 +3,21 @@ ghost use Rattle.std.specs.Prelude.{◌*◌, ◌<◌, ◌≤◌, IfOk};
 ghost use Rattle.hv_cond.specs.Diagram.{IsNode, Keeps};
 
 use hv_cond::{Cond, Store};
-use std::alloc::AllocError;
+use std::alloc::{AllocError, Global};
 
-/// In each of `n` pairs of neighbouring variables one is true, joined from the last pair on.
-pub fn pairs(store: &mut Store, n: u32) -> Result<Cond, AllocError>
+/// In each of `n` pairs of neighbouring variables one is true.
+pub fn pairs(alloc: Global, store: &mut Store, n: u32) -> Result<Cond, AllocError>
     requires room { 2 * n ≤ store.old.variables }
     requires small { n ≤ 1000 }
     ensures keeps { Keeps store.old store.new }
     ensures node { IfOk result (IsNode store.new) }
 {
-    let mut all = store.truth();
-    for i in 0..n {
-        let pair = n - 1 - i;
+    let mut parts = Vec::new(alloc);
+    for pair in 0..n {
         let one_true = either(store, 2 * pair, 2 * pair + 1)?;
-        all = store.and(one_true, all)?;
+        parts.push(one_true)?;
     }
-    Ok(all)
+    store.all(alloc, parts.as_slice())
 }
 
 /// One of two variables is true.
@@ -33,25 +32,23 @@ fn either(store: &mut Store, i: u32, j: u32) -> Result<Cond, AllocError>
     store.or(one, other)
 }
 
-/// Each of `n` variables implies the next, joined from the last link on: each step makes branches
-/// above those of the step before, and leaves these as they are.
-pub fn chain_from_last(store: &mut Store, n: u32) -> Result<Cond, AllocError>
+/// Each of `n` variables implies the next.
+pub fn chain(alloc: Global, store: &mut Store, n: u32) -> Result<Cond, AllocError>
     requires room { n < store.old.variables }
     ensures keeps { Keeps store.old store.new }
     ensures node { IfOk result (IsNode store.new) }
 {
-    let mut all = store.truth();
+    let mut links = Vec::new(alloc);
     for i in 0..n {
-        let first = n - 1 - i;
-        let link = implication(store, first, first + 1)?;
-        all = store.and(link, all)?;
+        let link = implication(store, i, i + 1)?;
+        links.push(link)?;
     }
-    Ok(all)
+    store.all(alloc, links.as_slice())
 }
 
-/// Each of `n` variables implies the next, joined from the first link on: each step goes through
-/// the whole diagram so far, and makes it anew.
-pub fn chain_from_first(store: &mut Store, n: u32) -> Result<Cond, AllocError>
+/// The same, joined link by link from the first on: each step goes through the whole diagram so
+/// far, and makes it anew.
+pub fn chain_by_and(store: &mut Store, n: u32) -> Result<Cond, AllocError>
     requires room { n < store.old.variables }
     ensures keeps { Keeps store.old store.new }
     ensures node { IfOk result (IsNode store.new) }

@@ -5,7 +5,7 @@ ghost use Rattle.hv_cond_bench.specs.Works.{limit};
 
 use crate::branches::count_branches;
 use crate::deep::deep;
-use crate::pairs_and_chains::{chain_from_first, chain_from_last, pairs};
+use crate::pairs_and_chains::{chain, chain_by_and, pairs};
 use crate::queens::queens;
 use hv_cond::{Cond, Store};
 use std::alloc::{AllocError, Global};
@@ -16,14 +16,14 @@ const REPETITIONS: u32 = 1_000_000;
 /// What is built.
 #[derive(Clone, Copy, PartialEq, Eq, Debug)]
 pub enum Work {
-    /// A conjunction of disjunctions of two variables, joined from the last one on.
+    /// A conjunction of disjunctions of two variables.
     Pairs,
     /// The placings of queens on a board of which none attacks another.
     Queens,
-    /// A conjunction of implications from each variable to the next, joined from the last one on.
-    ChainFromLast,
-    /// The same, joined from the first one on.
-    ChainFromFirst,
+    /// A conjunction of implications from each variable to the next.
+    Chain,
+    /// The same, by one conjunction after another from the first implication on.
+    ChainByAnd,
     /// A conjunction of two conditions of `Pairs`, made again and again.
     Same,
     /// The complement of the conjunction of all variables, by calls that go down all of them.
@@ -36,8 +36,8 @@ impl Work {
         match name {
             "pairs" => Some(Work::Pairs),
             "queens" => Some(Work::Queens),
-            "chain-from-last" => Some(Work::ChainFromLast),
-            "chain-from-first" => Some(Work::ChainFromFirst),
+            "chain" => Some(Work::Chain),
+            "chain-by-and" => Some(Work::ChainByAnd),
             "same" => Some(Work::Same),
             "deep" => Some(Work::Deep),
             _ => None,
@@ -49,8 +49,8 @@ impl Work {
         match self {
             Work::Pairs => "pairs",
             Work::Queens => "queens",
-            Work::ChainFromLast => "chain-from-last",
-            Work::ChainFromFirst => "chain-from-first",
+            Work::Chain => "chain",
+            Work::ChainByAnd => "chain-by-and",
             Work::Same => "same",
             Work::Deep => "deep",
         }
@@ -63,8 +63,8 @@ impl Work {
         match self {
             Work::Pairs | Work::Same => 1000,
             Work::Queens => 8,
-            Work::ChainFromLast => 200_000,
-            Work::ChainFromFirst => 4000,
+            Work::Chain => 200_000,
+            Work::ChainByAnd => 4000,
             Work::Deep => 4096,
         }
     }
@@ -85,7 +85,7 @@ pub fn run(alloc: Global, work: Work, n: u32) -> Result<usize, AllocError>
     match work {
         Work::Pairs => {
             let mut store = Store::new(alloc, 2 * n)?;
-            let built = pairs(&mut store, n)?;
+            let built = pairs(alloc, &mut store, n)?;
             count_branches(alloc, &store, built)
         }
         Work::Queens => {
@@ -93,14 +93,14 @@ pub fn run(alloc: Global, work: Work, n: u32) -> Result<usize, AllocError>
             let built = queens(&mut store, n)?;
             count_branches(alloc, &store, built)
         }
-        Work::ChainFromLast => {
+        Work::Chain => {
             let mut store = Store::new(alloc, n + 1)?;
-            let built = chain_from_last(&mut store, n)?;
+            let built = chain(alloc, &mut store, n)?;
             count_branches(alloc, &store, built)
         }
-        Work::ChainFromFirst => {
+        Work::ChainByAnd => {
             let mut store = Store::new(alloc, n + 1)?;
-            let built = chain_from_first(&mut store, n)?;
+            let built = chain_by_and(&mut store, n)?;
             count_branches(alloc, &store, built)
         }
         Work::Deep => {
@@ -110,21 +110,21 @@ pub fn run(alloc: Global, work: Work, n: u32) -> Result<usize, AllocError>
         }
         Work::Same => {
             let mut store = Store::new(alloc, 2 * n)?;
-            let built = same(&mut store, n)?;
+            let built = same(alloc, &mut store, n)?;
             count_branches(alloc, &store, built)
         }
     }
 }
 
 /// The conjunction of all pairs and of the first half of them, again and again.
-fn same(store: &mut Store, n: u32) -> Result<Cond, AllocError>
+fn same(alloc: Global, store: &mut Store, n: u32) -> Result<Cond, AllocError>
     requires room { 2 * n ≤ store.old.variables }
     requires small { n ≤ 1000 }
     ensures keeps { Keeps store.old store.new }
     ensures node { IfOk result (IsNode store.new) }
 {
-    let all = pairs(store, n)?;
-    let half = pairs(store, n / 2)?;
+    let all = pairs(alloc, store, n)?;
+    let half = pairs(alloc, store, n / 2)?;
     repeat(store, all, half)
 }
 

@@ -7,7 +7,6 @@ ghost use Rattle.hv_cstream.specs.working.Converting.{IsConverting, TakesOut, To
 ghost use Rattle.hv_given.specs.Refusals.{AreRefusals};
 ghost use Rattle.hv_toks.specs.Division.{Sorts};
 
-use crate::without::without;
 use hv_base::{CTok, List, Memory, Place, Start, Why};
 use hv_cond::{Cond, Store};
 use hv_ctoks::{ReservedNames, TokenFault, convert};
@@ -73,7 +72,7 @@ impl Conversion {
         ensures out { OnOk result
             (TakesOut store.old store.new place.now why cond self.old self.new) }
     {
-        let live = without(store, self.live, cond)?;
+        let live = store.without(self.live, cond)?;
         self.refusals.add(store, place, why, cond)?;
         self.live = live;
         Ok(())

@@ -9,7 +9,6 @@ ghost use Rattle.hv_cstream.specs.working.Joining.{AreNodes, IsJoining, is_none,
 ghost use Rattle.hv_ctoks.specs.Joining.{joined};
 
 use crate::literal::{Literal, append_all, keep, write_out_all};
-use crate::without::without;
 use hv_base::{CTok, List, Memory, Start, Text};
 use hv_cond::{Cond, Store};
 use hv_toks::{Stream, StreamTok};
@@ -30,7 +29,7 @@ fn outside_all(store: &mut Store, literals: &[Literal], cond: Cond) -> Result<Co
 {
     let mut rest = cond;
     for literal in literals {
-        rest = without(store, rest, literal.cond)?;
+        rest = store.without(rest, literal.cond)?;
     }
     Ok(rest)
 }

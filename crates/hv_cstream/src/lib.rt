@@ -5,7 +5,6 @@
 mod conversion;
 mod joining;
 mod literal;
-mod without;
 
 pub use conversion::convert_all;
 pub use joining::join_strings;

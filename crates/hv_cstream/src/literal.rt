@@ -3,7 +3,6 @@ ghost use Rattle.std.specs.Prelude.{◌≡◌, ◌++◌, ◌∷◌, [], ◌&&◌
 ghost use Rattle.hv_cond.specs.Diagram.{IsNode, Keeps, holds};
 ghost use Rattle.hv_cstream.specs.working.Joining.{Appends, AreNodes, WritesOut, open_in, shown, with_string};
 
-use crate::without::without;
 use hv_base::{CTok, List, Memory, Start, Text};
 use hv_cond::{Cond, Store};
 use hv_toks::{Stream, StreamTok};
@@ -31,7 +30,7 @@ fn parted(store: &mut Store, cond: Cond, other: Cond) -> Result<(Cond, Cond), Me
     ensures outside { IfOk result (λ parts. (values : List Bool) → holds store.new parts.1 values
         ≡ (holds store.old cond values && not (holds store.old other values))) }
 {
-    let outside = without(store, cond, other)?;
+    let outside = store.without(cond, other)?;
     let inside = store.and(cond, other)?;
     Ok((inside, outside))
 }

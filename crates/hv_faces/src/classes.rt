@@ -27,20 +27,6 @@ pub(crate) fn can_hold(store: &Store, cond: Cond) -> bool
     !store.same(cond, store.falsity())
 }
 
-/// A condition without another.
-fn without(store: &mut Store, cond: Cond, other: Cond) -> Result<Cond, Memory>
-    requires cond { IsNode store.old cond }
-    requires other { IsNode store.old other }
-    ensures keeps { Keeps store.old store.new }
-    ensures node { IfOk result (λ c. IsNode store.new c) }
-    ensures meaning { IfOk result (λ c. (values : List Bool) → holds store.new c values
-        ≡ (holds store.old cond values && not (holds store.old other values))) }
-{
-    let complement = store.not(other)?;
-    let outside = store.and(cond, complement)?;
-    Ok(outside)
-}
-
 /// Whether there are more classes than are allowed.
 fn are_too_many(count: usize) -> bool
     ensures many { IsTrue result → MOST_FACES < count }
@@ -77,7 +63,7 @@ fn collect<R: Runs>(
     let mut classes = List::new(alloc);
     'gather: while can_hold(store, rest) {
         let found = runs.run(store, rest)?;
-        rest = without(store, rest, found.cond)?;
+        rest = store.without(rest, found.cond)?;
         classes.add(found)?;
         if are_too_many(classes.len()) {
             let conds = conds(alloc, classes.as_slice())?;

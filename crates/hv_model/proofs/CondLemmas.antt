@@ -1,26 +1,17 @@
 -- Stacks of conditions.
 use Rattle.std.proofs.Common.{◌≡◌, ℕ, Bool, true, false, ◌&&◌, ◌||◌, not, List, [], ◌∷◌, refl, sym, ◌∙◌, ap}
 use Rattle.std.specs.Prelude.{Result, Ok, Err, IfOk, OnOk}
-use Rattle.hv_cond.specs.Diagram.{AllNodes, Diagram, IsNode, Keeps, holds}
+use Rattle.hv_cond.specs.Diagram.{AllNodes, Diagram, IsNode, Keeps, all_hold, holds}
 use Rattle.hv_cond.specs.declared.conditions.Cond.{Cond}
-use Rattle.hv_cond.specs.Laws.{Keeps-refl, Keeps-trans}
-use Rattle.std.proofs.Common.{zero, suc, ◌+◌, ◌<◌, ◌≤◌, length, take, get_or, map, arith}
+use Rattle.hv_cond.specs.Laws.{AllNodes-append, AllNodes-kept, Keeps-refl, Keeps-trans, all_hold-append, all_hold-kept}
+use Rattle.std.proofs.Common.{zero, suc, ◌+◌, ◌<◌, ◌≤◌, ◌++◌, length, take, get_or, map, arith}
 use Rattle.std.specs.List.{list_all}
 use Rattle.std.proofs.lemmas.List.{take_more, take_all, map-append}
 use Rattle.std.proofs.lemmas.List.Folds.{list_all-append}
 use Rattle.hv_base.proofs.Booleans.{and_true}
 use Rattle.hv_model.specs.working.Conds.{held}
 use Rattle.hv_model.specs.Rule.{Rule, meets, meets_all}
-use Rattle.std.specs.Prelude.{IsTrue}
-use Rattle.std.specs.List.{list_any}
-use Rattle.std.specs.List.Sorted.{IsPermutation}
-use Rattle.std.proofs.Common.{subst}
-use Rattle.std.proofs.lemmas.List.Sorted.{list_any-IsPermutation}
-use Rattle.std.proofs.lemmas.Map.Views.{All-map-IsPermutation}
-use Rattle.hv_base.proofs.Lists.{length-map, list_all-map}
-use Rattle.hv_model.specs.declared.join.Ranked.{Ranked}
-use Rattle.hv_model.specs.working.Joined.{code_in}
-use Rattle.hv_model.specs.working.Steps.{AllFit, fits, items_of, rule_of, top_of, values_after}
+use Rattle.hv_model.specs.working.Steps.{fits, items_of, rule_of, top_of, values_after}
 use Rattle.hv_model.specs.declared.code.Step.{Step}
 use Rattle.hv_model.proofs.StepLemmas.{truths, values-all, values-more}
 
@@ -130,27 +121,13 @@ made_none old now stack c steps k m h e f = λ values.
     f values ∙ (sym (ap (λ s. top_of (held now values s)) e)
     ∙ values-all values (held now values stack) steps k h (m.meaning values))
 
--- the condition of all rules is being made
-pub record IsGathering (old now : Diagram) (all : Cond) (rules : List Ranked) (k : ℕ) : Type 0 where
+-- the conditions of the rules are being made
+pub record IsGathering (old now : Diagram) (found : List Cond) (rules : List (List Step)) (k : ℕ)
+    : Type 0 where
   pub keeps : Keeps old now
-  pub node : IsNode now all
+  pub nodes : AllNodes now found
   pub meaning : (values : List Bool)
-      → holds now all values ≡ meets_all values (map rule_of (take k (map code_in rules)))
-
-get_or-code_in : (rules : List Ranked) (k : ℕ) (d : Ranked)
-    → get_or (map code_in rules) k (code_in d) ≡ code_in (get_or rules k d)
-get_or-code_in [] k d = refl
-get_or-code_in (r ∷ rules) zero d = refl
-get_or-code_in (r ∷ rules) (suc k) d = get_or-code_in rules k d
-
--- the rule of this number fits
-pub gathering_fits : (n : ℕ) (rules : List Ranked) (k : ℕ) (r : Ranked)
-    → AllFit n (map code_in rules) → k < length rules → r ≡ get_or rules k r
-    → list_all (fits n) (code_in r) ≡ true
-gathering_fits n rules k r h lt is =
-    ap (λ x. list_all (fits n) (code_in x)) is
-    ∙ (sym (ap (list_all (fits n)) (get_or-code_in rules k r))
-    ∙ h k (code_in r) (omega (arith, length-map code_in rules, lt)))
+      → all_hold now found values ≡ meets_all values (map rule_of (take k rules))
 
 list_all-more : (p : Rule → Bool) (codes : List (List Step)) (k : ℕ) (d : List Step)
     → k < length codes → list_all p (map rule_of (take (k + 1) codes))
@@ -162,85 +139,37 @@ list_all-more p codes k d lt =
     ∙ ap (λ b. list_all p (map rule_of (take k codes)) && b)
     (and_true (p (rule_of (get_or codes k d))))))
 
-pub gathering_step : (old mid one now : Diagram) (all cond both : Cond) (rules : List Ranked)
-    (k : ℕ) (r : Ranked) → IsGathering old mid all rules k
-    → k < length rules
-    → r ≡ get_or rules k r
-    → Keeps mid one → ((values : List Bool) → holds one cond values
-    ≡ meets values (rule_of (code_in r)))
-    → Keeps one now → IsNode now both
-    → ((values : List Bool) → holds now both values ≡ (holds one all values &&
-    holds one cond values))
-    → IsGathering old now both rules (k + 1)
-gathering_step old mid one now all cond both rules k r g lt is k1 e k2 n f =
-    let codes = map code_in rules in
-    let below : k < length codes = omega (arith, length-map code_in rules, lt) in
-    let here : code_in r ≡ get_or codes k (code_in r) = ap code_in is
-    ∙ sym (get_or-code_in rules k r) in
+-- one more
+pub gathering_step : (old mid now : Diagram) (found : List Cond) (c : Cond)
+    (rules : List (List Step)) (k : ℕ) (d : List Step) → IsGathering old mid found rules k
+    → k < length rules → Keeps mid now → IsNode now c
+    → ((values : List Bool) → holds now c values ≡ meets values (rule_of (get_or rules k d)))
+    → IsGathering old now (found ++ c ∷ []) rules (k + 1)
+gathering_step old mid now found c rules k d g lt kept n f =
     record {
-      keeps = Keeps-trans g.keeps (Keeps-trans k1 k2);
-      node = n;
+      keeps = Keeps-trans g.keeps kept;
+      nodes = AllNodes-append now found (c ∷ []) (AllNodes-kept kept found g.nodes) (n, tt);
       meaning = λ values.
-          f values
-          ∙ (ap (λ (b : Bool). b && holds one cond values)
-          (k1.meaning all g.node values ∙ g.meaning values)
-          ∙ (ap (λ (b : Bool). meets_all values (map rule_of (take k codes)) && b)
-          (e values ∙ ap (λ c. meets values (rule_of c)) here)
-          ∙ sym (list_all-more (meets values) codes k (code_in r) below)));
+          all_hold-append now found (c ∷ []) values
+          ∙ (ap (λ (b : Bool). b && all_hold now (c ∷ []) values)
+          (all_hold-kept kept found g.nodes values ∙ g.meaning values)
+          ∙ (ap (λ (b : Bool). meets_all values (map rule_of (take k rules)) && b)
+          (and_true (holds now c values) ∙ f values)
+          ∙ sym (list_all-more (meets values) rules k d lt)));
     }
 
-pub gathered : (old now : Diagram) (all : Cond) (rules : List Ranked) (k : ℕ)
-    → IsGathering old now all rules k → length rules ≤ k
-    → (values : List Bool) → holds now all values
-    ≡ meets_all values (map rule_of (map code_in rules))
-gathered old now all rules k g h = λ values.
+-- all
+pub gathered : (old now : Diagram) (found : List Cond) (rules : List (List Step)) (k : ℕ)
+    → IsGathering old now found rules k → length rules ≤ k
+    → (values : List Bool) → all_hold now found values ≡ meets_all values (map rule_of rules)
+gathered old now found rules k g h = λ values.
     g.meaning values
-    ∙ ap (λ xs. meets_all values (map rule_of xs))
-    (take_all k (map code_in rules) (omega (arith, length-map code_in rules, h)))
+    ∙ ap (λ xs. meets_all values (map rule_of xs)) (take_all k rules h)
 
-pub gathering_start : (store : Diagram) (all : Cond) (rules : List Ranked) → IsNode store all
-    → ((values : List Bool) → holds store all values ≡ true) → IsGathering store store all rules 0
-gathering_start store all rules n h = record { keeps = Keeps-refl store; node = n; meaning = h }
-
--- rules in another order
-list_all-permuted : {X : Type 0} (p : X → Bool) (xs ys : List X) → IsPermutation xs ys
-    → list_all p xs ≡ list_all p ys
-list_all-permuted p xs ys h =
-    list_all-any p xs ∙ (ap not (list_any-IsPermutation (λ x. not (p x)) xs ys h)
-    ∙ sym (list_all-any p ys))
-  where
-    not_or : (a b : Bool) → (a && not b) ≡ not (not a || b)
-    not_or true b = refl
-    not_or false b = refl
-
-    list_all-any : {X : Type 0} (p : X → Bool) (xs : List X)
-        → list_all p xs ≡ not (list_any (λ x. not (p x)) xs)
-    list_all-any p [] = refl
-    list_all-any p (x ∷ xs) = ap (λ b. p x && b) (list_all-any p xs)
-        ∙ not_or (p x) (list_any (λ x. not (p x)) xs)
-
-meets_all-ranked : (values : List Bool) (rules : List Ranked)
-    → meets_all values (map rule_of (map code_in rules))
-    ≡ list_all (λ r. meets values (rule_of (code_in r))) rules
-meets_all-ranked values rules =
-    list_all-map (meets values) rule_of (map code_in rules)
-    ∙ list_all-map (λ c. meets values (rule_of c)) code_in rules
-
-pub permuted_meets : (values : List Bool) (codes : List (List Step)) (rules sorted : List Ranked)
-    → map code_in rules ≡ codes
-    → IsPermutation rules sorted
-    → meets_all values (map rule_of (map code_in sorted)) ≡ meets_all values (map rule_of codes)
-permuted_meets values codes rules sorted e h =
-    meets_all-ranked values sorted
-    ∙ (sym (list_all-permuted (λ r. meets values (rule_of (code_in r))) rules sorted h)
-    ∙ (sym (meets_all-ranked values rules) ∙ ap (λ c. meets_all values (map rule_of c)) e))
-
-pub permuted_fits : (n : ℕ) (codes : List (List Step)) (rules sorted : List Ranked)
-    → map code_in rules ≡ codes → IsPermutation rules sorted
-    → AllFit n codes → AllFit n (map code_in sorted)
-permuted_fits n codes rules sorted e h fit =
-    All-map-IsPermutation code_in (λ steps. IsTrue (list_all (fits n) steps)) rules sorted h
-    (subst (AllFit n) (sym e) fit)
+-- of none
+pub gathering_start : (store : Diagram) (rules : List (List Step))
+    → IsGathering store store [] rules 0
+gathering_start store rules = record { keeps = Keeps-refl store; nodes = tt; meaning = λ values. refl }
 
 -- what the condition means, by equal tests
 pub meaning_by : {E : Type 0} (r : Result Cond E) (d : Diagram) (f g : List Bool → Bool)

@@ -1,9 +1,8 @@
 -- What private functions do; no exported clause cites these. Read Steps and Machine for how a rule
 -- is read in one pass (Said, Parsed and Known connect them with the code), Codes for rules as plain
--- data, Conds and Joined for diagrams, ModelLine and Pieces for the parts of a text.
+-- data, Conds for diagrams, ModelLine and Pieces for the parts of a text.
 pub mod Codes
 pub mod Conds
-pub mod Joined
 pub mod Known
 pub mod Machine
 pub mod ModelLine

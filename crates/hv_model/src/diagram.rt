@@ -7,7 +7,6 @@ ghost use Rattle.hv_model.specs.Rule.{IsLeastValid, IsValid, meets_all};
 ghost use Rattle.hv_model.specs.Valid.{IsValidIn};
 
 use crate::faults::{ModelKind, ModelRefusal};
-use crate::force::places_of;
 use crate::join::joined;
 use crate::model::{Model, bad, read_lines};
 use crate::order::order_of;
@@ -58,9 +57,8 @@ fn diagram_of(alloc: Global, model: &Model) -> Result<(Store, Cond), Memory>
     ensures { IfOk result (λ made. IsValidIn model.now made.0 made.1) }
 {
     let order = order_of(alloc, model.rules(), model.options())?;
-    let places = places_of(alloc, order.as_slice(), model.options())?;
     let mut store = Store::ordered(alloc, model.options() as u32, order.as_slice())?;
-    let valid = joined(alloc, model.rules(), places.as_slice(), &mut store)?;
+    let valid = joined(alloc, model.rules(), &mut store)?;
     Ok((store, valid))
 }
 
@@ -91,10 +89,7 @@ pub fn valid_cond(model: &Model, store: &mut Store) -> Result<Cond, Memory>
         length values ≡ length model.now.names →
         (IsTrue (holds store.new c values) ↔ IsValid model.now values)) }
 {
-    let alloc = model.allocator();
-    let order = order_of(alloc, model.rules(), model.options())?;
-    let places = places_of(alloc, order.as_slice(), model.options())?;
-    joined(alloc, model.rules(), places.as_slice(), store)
+    joined(model.allocator(), model.rules(), store)
 }
 
 /// The least valid configuration, in the model's order and off before on, or `None` where none is

@@ -32,11 +32,7 @@ impl Mean {
 }
 
 /// The place of each option in an order.
-pub(crate) fn places_of(
-    alloc: Global,
-    order: &[u32],
-    options: usize,
-) -> Result<Vec<u64>, AllocError> {
+fn places_of(alloc: Global, order: &[u32], options: usize) -> Result<Vec<u64>, AllocError> {
     let mut places = vec![in alloc; 0u64; options]?;
     let mut next = 0u64;
     for option in order {

@@ -25,20 +25,6 @@ pub(crate) struct Unit {
     pub(crate) refusals: Refusals,
 }
 
-/// A condition without another.
-fn without(store: &mut Store, cond: Cond, other: Cond) -> Result<Cond, Memory>
-    requires cond { IsNode store.old cond }
-    requires other { IsNode store.old other }
-    ensures keeps { Keeps store.old store.new }
-    ensures node { IfOk result (λ c. IsNode store.new c) }
-    ensures meaning { IfOk result (λ c. (values : List Bool) → holds store.new c values
-        ≡ (holds store.old cond values && not (holds store.old other values))) }
-{
-    let complement = store.not(other)?;
-    let outside = store.and(cond, complement)?;
-    Ok(outside)
-}
-
 /// The configurations of some entry.
 fn any(store: &mut Store, failing: &[Failing]) -> Result<Cond, Memory>
     requires { AllNodes store.old (conditions failing.now) }
@@ -128,7 +114,7 @@ impl Unit {
             (λ values macros. refusal why place.now)) }
     {
         let refused = self.live_in(store, cond)?;
-        let live = without(store, self.live, refused)?;
+        let live = store.without(self.live, refused)?;
         self.refusals.add(store, place, why, refused)?;
         self.live = live;
         Ok(())
@@ -151,7 +137,7 @@ impl Unit {
     {
         add_all(&mut self.given, given)?;
         let refused = any(store, failing)?;
-        self.live = without(store, self.live, refused)?;
+        self.live = store.without(self.live, refused)?;
         refuse_all(&mut self.refusals, store, failing)?;
         Ok(())
     }

@@ -41,7 +41,7 @@ returns-then-are_too_many-clause-gathered g c =
     ∙ length-append c.gather.classes (c.in_ok-found.found ∷ []) in
     let few = c.gather.invariant.few in
     omega (arith, c.if-are_too_many.ensures.many refl, c.len.ensures, more, few) in
-    subst (λ conds. AreTooMany c.without.new.store c.args.cond
+    subst (λ conds. AreTooMany c.without.new.self c.args.cond
     (g.R.Runs.same_face c.args.store.now c.args.runs.now) conds)
     (sym (c.in_ok-conds.ensures ∙ ap conditions c.as_slice.ensures))
     (gathered_many _ _ _ _ _ _ _

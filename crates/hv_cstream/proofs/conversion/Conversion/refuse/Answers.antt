@@ -9,7 +9,7 @@ add-requires-clause-entries c =
 
 pub returns-clause-out : goal.returns-clause-out
 returns-clause-out c =
-    takes_out c.args.store.now c.without.new.store c.add.new.store c.without.ensures.keeps
+    takes_out c.args.store.now c.without.new.self c.add.new.store c.without.ensures.keeps
     c.args.place.now c.args.why c.args.cond c.args.self.now _ c.requires.cond c.requires.refusals
     refl refl (c.add.ensures.keeps.stays c.in_ok-live.live c.in_ok-live.ensures.node)
     (λ v. c.add.ensures.keeps.meaning c.in_ok-live.live c.in_ok-live.ensures.node v
