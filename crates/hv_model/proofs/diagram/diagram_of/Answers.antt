@@ -5,4 +5,4 @@ use Rattle.hv_model.proofs.diagram.diagram_of.Goals as goal
 pub joined-requires : goal.joined-requires
 joined-requires c =
     subst (λ n. AllFit n c.rules-2.result.now)
-    (sym (c.in_ok-store.ensures.variables ∙ c.options-3.ensures.count)) c.rules-2.ensures.fit
+    (sym (c.in_ok-store.ensures.variables ∙ c.options-2.ensures.count)) c.rules-2.ensures.fit
