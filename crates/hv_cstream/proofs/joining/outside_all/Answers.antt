@@ -6,11 +6,11 @@ use Rattle.hv_cstream.proofs.Literals.{node_at, outside_more, outside_start}
 use Rattle.hv_cstream.specs.working.Joining.{is_none, open_in}
 use Rattle.hv_cstream.proofs.joining.outside_all.Goals as goal
 
-pub without-requires-clause-cond : goal.without-requires-clause-cond
-without-requires-clause-cond c = c.loop-literal.invariant.node
+pub without-requires-clause-first : goal.without-requires-clause-first
+without-requires-clause-first c = c.loop-literal.invariant.node
 
-pub without-requires-clause-other : goal.without-requires-clause-other
-without-requires-clause-other c =
+pub without-requires-clause-second : goal.without-requires-clause-second
+without-requires-clause-second c =
     c.loop-literal.invariant.keeps.stays c.literal-item.result.cond
     (node_at _ c.args.literals.now c.loop-literal.literal-index c.literal-item.result c.requires.nodes
     (c.loop-literal-test.true, c.literal-item.is))
