@@ -7,6 +7,7 @@ use hv_base::{List, Memory, Place, Text};
 use hv_expand::{Entry, Expanded, RunEnd, plain_episode};
 use hv_toks::{Body, Meaning, PpTok};
 use std::alloc::Global;
+use std::process::Abort;
 use std::rc::Rc;
 use std::test::Fail;
 
@@ -155,56 +156,68 @@ const STRINGS: [Definition; 9] = [
 /// Paragraph 7 (example 5): an empty argument beside `##` leaves nothing.
 const EMPTY: [Definition; 1] = [("t", Some(&["x", "y", "z"]), "x ## y ## z", &[])];
 
-#[test]
-fn examples_of_the_standard(rt: HostRuntime) -> Result<(), Fail> {
-    let rows: [(&[Definition], &str, &str); 8] = [
-        (
-            &CALLS,
-            "f(y+1) + f(f(z)) % t(t(g)(0) + t)(1);",
-            "f ( 2 * ( y + 1 ) ) + f ( 2 * ( f ( 2 * ( z [ 0 ] ) ) ) ) \
-             % f ( 2 * ( 0 ) ) + t ( 1 ) ; ",
-        ),
-        (
-            &CALLS,
-            "g(x+(3,4)-w) | h 5) & m\n(f)^m(m);",
-            "f ( 2 * ( 2 + ( 3 , 4 ) - 0 , 1 ) ) | f ( 2 * ( ~ 5 ) ) & f ( 2 * ( 0 , 1 ) ) \
-             ^ m ( 0 , 1 ) ; ",
-        ),
-        (
-            &CALLS,
-            "p() i[q()] = { q(1), r(2,3), r(4,), r(,5), r(,) };",
-            "int i [ ] = { 1 , 23 , 4 , 5 , } ; ",
-        ),
-        (
-            &CALLS,
-            "c = { str(hello), str() };",
-            "c = { \"hello\" , \"\" } ; ",
-        ),
-        (
-            &STRINGS,
-            "xstr(strncmp(\"abc\\0d\", '\\4') == 0) xstr(INCFILE(2).h) str(: @\\n)",
-            "\"strncmp(\\\"abc\\\\0d\\\", '\\\\4') == 0\" \"vers2.h\" \": @\\n\" ",
-        ),
-        (
-            &STRINGS,
-            "glue(HIGH, LOW); xglue(HIGH, LOW)",
-            "\"hello\" ; \"hello\" \", world\" ",
-        ),
-        (
-            &STRINGS,
-            "showlist(The first, second.); report(x>y, \"%d, %d\", x, y)",
-            "puts ( \"The first, second.\" ) ; ( ( x > y ) ? puts ( \"x>y\" ) \
-             : printf ( \"%d, %d\" , x , y ) ) ",
-        ),
-        (
-            &EMPTY,
-            "t(1,2,3), t(,4,5), t(6,,7), t(8,9,), t(10,,), t(,11,), t(,,12), t(,,)",
-            "123 , 45 , 67 , 89 , 10 , 11 , 12 , ",
-        ),
-    ];
-    for (definitions, file, wanted) in rows {
-        let found = expanded(rt.alloc(), definitions, file)?;
+/// A file, and the tokens that are left of it.
+type Example = (&'static str, &'static str);
+
+/// The tokens that paragraph 5 gives.
+const CALLS_LEFT: [Example; 4] = [
+    (
+        "f(y+1) + f(f(z)) % t(t(g)(0) + t)(1);",
+        "f ( 2 * ( y + 1 ) ) + f ( 2 * ( f ( 2 * ( z [ 0 ] ) ) ) ) \
+         % f ( 2 * ( 0 ) ) + t ( 1 ) ; ",
+    ),
+    (
+        "g(x+(3,4)-w) | h 5) & m\n(f)^m(m);",
+        "f ( 2 * ( 2 + ( 3 , 4 ) - 0 , 1 ) ) | f ( 2 * ( ~ 5 ) ) & f ( 2 * ( 0 , 1 ) ) \
+         ^ m ( 0 , 1 ) ; ",
+    ),
+    (
+        "p() i[q()] = { q(1), r(2,3), r(4,), r(,5), r(,) };",
+        "int i [ ] = { 1 , 23 , 4 , 5 , } ; ",
+    ),
+    ("c = { str(hello), str() };", "c = { \"hello\" , \"\" } ; "),
+];
+
+/// The tokens that paragraphs 6 and 9 give.
+const STRINGS_LEFT: [Example; 3] = [
+    (
+        "xstr(strncmp(\"abc\\0d\", '\\4') == 0) xstr(INCFILE(2).h) str(: @\\n)",
+        "\"strncmp(\\\"abc\\\\0d\\\", '\\\\4') == 0\" \"vers2.h\" \": @\\n\" ",
+    ),
+    (
+        "glue(HIGH, LOW); xglue(HIGH, LOW)",
+        "\"hello\" ; \"hello\" \", world\" ",
+    ),
+    (
+        "showlist(The first, second.); report(x>y, \"%d, %d\", x, y)",
+        "puts ( \"The first, second.\" ) ; ( ( x > y ) ? puts ( \"x>y\" ) \
+         : printf ( \"%d, %d\" , x , y ) ) ",
+    ),
+];
+
+/// The tokens that paragraph 7 gives.
+const EMPTY_LEFT: [Example; 1] = [(
+    "t(1,2,3), t(,4,5), t(6,,7), t(8,9,), t(10,,), t(,11,), t(,,12), t(,,)",
+    "123 , 45 , 67 , 89 , 10 , 11 , 12 , ",
+)];
+
+/// Each file has the tokens that are said.
+fn assert_examples(
+    rt: &impl Abort,
+    alloc: Global,
+    definitions: &[Definition],
+    examples: &[Example],
+) -> Result<(), Fail> {
+    for (file, wanted) in examples {
+        let found = expanded(alloc, definitions, file)?;
         assert!(rt; found.is_text(wanted.as_bytes()), "{file}");
     }
     Ok(())
+}
+
+#[test]
+fn examples_of_the_standard(rt: HostRuntime) -> Result<(), Fail> {
+    assert_examples(&rt, rt.alloc(), &CALLS, &CALLS_LEFT)?;
+    assert_examples(&rt, rt.alloc(), &STRINGS, &STRINGS_LEFT)?;
+    assert_examples(&rt, rt.alloc(), &EMPTY, &EMPTY_LEFT)
 }
